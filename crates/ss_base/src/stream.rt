@@ -1,0 +1,138 @@
+ghost use Rattle.std.specs.Prelude.{◌≡◌, vec_len, vec_capacity, [], ℕ, ◌<◌, ◌≤◌, ◌++◌, List, Option, length, take, drop, IfOk, OnOk, OnErr, Some, None};
+ghost use Rattle.ss_base.specs.Streams.{Rose, Reads, AddsBack, TakesPrefix};
+
+use crate::types::{Failed, Memory};
+use std::alloc::Global;
+
+/// Where bytes are read from.
+pub trait Source {
+    /// The bytes that are left, where it tells them.
+    ghost left: { Self → Option (List ℕ) };
+
+    /// How often it failed, a count that never falls and stands still at 2^64 - 1.
+    ghost faults: { Self → ℕ };
+
+    /// Reads some bytes into the front of the buffer and answers how many. For a buffer that isn't
+    /// empty the answer 0 is the end of input. `Failed` comes only where the count of faults rose in
+    /// this call; no byte is taken then.
+    fn read(&mut self, buf: &mut [u8]) -> Result<usize, Failed>
+        ensures ok { IfOk result (λ n. Reads (left self.old) (left self.new) buf.new n) }
+        ensures count { faults self.old ≤ faults self.new }
+        ensures cause { OnErr result (Rose (faults self.old) (faults self.new)) }
+        ensures err { OnErr result (left self.new ≡ left self.old) };
+}
+
+/// Where bytes are written to.
+pub trait Sink {
+    /// The bytes taken so far, where it tells them.
+    ghost taken: { Self → Option (List ℕ) };
+
+    /// How often it failed, a count that never falls and stands still at 2^64 - 1.
+    ghost faults: { Self → ℕ };
+
+    /// Takes some bytes from the front of the piece and answers how many: at least one of a piece that
+    /// isn't empty. `Failed` comes only where the count of faults rose in this call; no byte is taken
+    /// then.
+    fn write(&mut self, piece: &[u8]) -> Result<usize, Failed>
+        ensures within { IfOk result (λ n. n ≤ length piece.now) }
+        ensures some { 0 < length piece.now → IfOk result (λ n. 0 < n) }
+        ensures ok { IfOk result (λ n. AddsBack (taken self.old) (taken self.new) (take n piece.now)) }
+        ensures count { faults self.old ≤ faults self.new }
+        ensures cause { OnErr result (Rose (faults self.old) (faults self.new)) }
+        ensures err { OnErr result (taken self.new ≡ taken self.old) };
+}
+
+/// Writes the whole piece, at least a byte a turn, and takes no memory. `Failed` comes only where the
+/// sink's count of faults rose in this call; a prefix of the piece was taken then.
+pub fn write_all<K: Sink>(sink: &mut K, piece: &[u8]) -> Result<(), Failed>
+    ensures ok { OnOk result (AddsBack (K.taken sink.old) (K.taken sink.new) piece.now) }
+    ensures count { K.faults sink.old ≤ K.faults sink.new }
+    ensures cause { OnErr result (Rose (K.faults sink.old) (K.faults sink.new)) }
+    ensures err { OnErr result (TakesPrefix (K.taken sink.old) (K.taken sink.new) piece.now) }
+{
+    let mut at = 0usize;
+    while at < piece.len() {
+        let (_, rest) = piece.split_at(at);
+        at += sink.write(rest)?;
+    }
+    Ok(())
+}
+
+/// A source in memory that never fails.
+#[derive(Debug, Drop)]
+pub struct PureSource {
+    bytes: Vec<u8>,
+    at: usize,
+    ghost within: { at ≤ length bytes.items },
+}
+
+impl PureSource {
+    pub fn new(alloc: Global, bytes: &[u8]) -> Result<PureSource, Memory>
+        ensures { IfOk result (λ s. ⟦<PureSource as Source>⟧.left s ≡ Some bytes.now) }
+    {
+        let bytes = Vec::from_slice(alloc, bytes)?;
+        Ok(PureSource { bytes, at: 0 })
+    }
+}
+
+impl Source for PureSource {
+    ghost left = { λ s. Some (drop s.at s.bytes.items) };
+
+    ghost faults = { λ s. 0 };
+
+    fn read(&mut self, buf: &mut [u8]) -> Result<usize, Failed> {
+        let n = buf.len().min(self.bytes.len() - self.at);
+        buf[..n].copy_from_slice(&self.bytes[self.at..self.at + n]);
+        self.at += n;
+        Ok(n)
+    }
+}
+
+/// A sink in memory that fails where its room is full.
+#[derive(Debug, Drop)]
+pub struct PureSink {
+    bytes: Vec<u8>,
+    room: usize,
+    faults: u64,
+    ghost reserved: { room ≤ vec_capacity bytes },
+    ghost within: { vec_len bytes ≤ room },
+    ghost full: { 0 < faults → vec_len bytes ≡ room },
+}
+
+impl PureSink {
+    pub fn new(alloc: Global, room: usize) -> Result<PureSink, Memory>
+        ensures empty { IfOk result (λ s. ⟦<PureSink as Sink>⟧.taken s ≡ Some []) }
+        ensures none { IfOk result (λ s. ⟦<PureSink as Sink>⟧.faults s ≡ 0) }
+    {
+        let bytes = Vec::with_capacity(alloc, room)?;
+        Ok(PureSink {
+            bytes,
+            room,
+            faults: 0,
+        })
+    }
+
+    pub fn bytes(&self) -> &[u8]
+        ensures { Some result.now ≡ ⟦<PureSink as Sink>⟧.taken self.now }
+    {
+        self.bytes.as_slice()
+    }
+}
+
+impl Sink for PureSink {
+    ghost taken = { λ s. Some s.bytes.items };
+
+    ghost faults = { λ s. s.faults };
+
+    fn write(&mut self, piece: &[u8]) -> Result<usize, Failed> {
+        let n = piece.len().min(self.room - self.bytes.len());
+        if n == 0 && !piece.is_empty() {
+            self.faults = self.faults.saturating_add(1);
+            return Err(Failed);
+        }
+        match self.bytes.extend_from_slice(&piece[..n]) {
+            Ok(()) => Ok(n),
+            Err(_) => unreachable!(),
+        }
+    }
+}
