@@ -1,6 +1,7 @@
-ghost use Rattle.std.specs.Prelude.{◌≡◌, ◌≤◌, ◌<◌, IfSome, take_while};
+ghost use Rattle.std.specs.Prelude.{◌≡◌, ◌≤◌, ◌<◌, IfSome, length, position, take_while};
 ghost use Rattle.std.specs.Char.{is_ascii_alphabetic};
-ghost use Rattle.cell_addr.specs.Cells.{cell_of, range_of, range_between, has_dollar, past_dollar, past_letters};
+ghost use Rattle.std.specs.List.{prefix_len};
+ghost use Rattle.cell_addr.specs.Cells.{cell_of, range_of, range_between, has_dollar, is_colon, past_dollar, past_letters, span_of};
 
 use crate::column::col_of;
 use crate::number::read_count;
@@ -34,17 +35,28 @@ pub fn read_range(text: &[u8]) -> Option<Span>
     ensures within { IfSome result (λ span. (span.bottom < 9999999) × (span.right < 18278)) }
     ensures ordered { IfSome result (λ span. (span.top ≤ span.bottom) × (span.left ≤ span.right)) }
 {
-    match text.iter().position(|b| *b == b':') {
+    match colon_in(text) {
         None => {
-            let cell = read_cell(text)?;
-            Some(span_between(cell, cell))
+            let cell = read_cell(text);
+            between(cell, cell)
         }
-        Some(colon) => {
-            let first = read_cell(&text[..colon])?;
-            let second = read_cell(&text[colon + 1..])?;
-            Some(span_between(first, second))
-        }
+        Some(colon) => between(read_cell(&text[..colon]), read_cell(&text[colon + 1..])),
     }
+}
+
+/// Where the first colon stands.
+fn colon_in(text: &[u8]) -> Option<usize>
+    ensures place { result ≡ position is_colon text.now }
+    ensures within { IfSome result (λ colon. colon < length text.now) }
+{
+    text.iter().position(|b| *b == b':')
+}
+
+/// The range of two corners, where both are there.
+fn between(a: Option<Spot>, b: Option<Spot>) -> Option<Span>
+    ensures { result ≡ span_of a b }
+{
+    Some(span_between(a?, b?))
 }
 
 /// The range of two corners, put in order.
@@ -81,6 +93,18 @@ fn split_letters(text: &[u8]) -> (&[u8], &[u8])
     ensures letters { result.0.now ≡ take_while is_ascii_alphabetic text.now }
     ensures rest { result.1.now ≡ past_letters text.now }
 {
-    let count = text.iter().take_while(|b| b.is_ascii_alphabetic()).count();
-    text.split_at(count)
+    text.split_at(letter_count(text))
+}
+
+/// How many letters stand at the front.
+fn letter_count(text: &[u8]) -> usize
+    ensures count { result ≡ prefix_len is_ascii_alphabetic text.now }
+    ensures within { result ≤ length text.now }
+{
+    for (i, letter) in text.iter().enumerate() {
+        if !letter.is_ascii_alphabetic() {
+            return i;
+        }
+    }
+    text.len()
 }
