@@ -7,4 +7,5 @@ pub mod Placed
 pub mod Fits
 pub mod History
 pub mod Shown
+pub mod Effects
 pub mod Edits
