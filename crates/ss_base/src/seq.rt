@@ -58,6 +58,15 @@ impl<T> Seq<T> {
         mem::replace(&mut self.items, none)
     }
 
+    /// The empty list with this list's allocator. It takes no memory.
+    pub fn empty_beside<U>(&self) -> Seq<U>
+        ensures { result ≡ [] }
+    {
+        Seq {
+            items: Vec::new(*self.items.allocator()),
+        }
+    }
+
     pub fn as_slice(&self) -> &[T]
         ensures { result.now ≡ self.now }
     {

@@ -1,0 +1,26 @@
+-- What an effect does to a sheet by positions.
+use Rattle.std.specs.Prelude.{ℕ, ◌≡◌, List, [], ◌∷◌, slice_set, slice_index_or}
+use Rattle.sheet_ops.specs.declared.content.Content.{Content}
+use Rattle.sheet_ops.specs.declared.content.Put.{Put}
+use Rattle.sheet_ops.specs.declared.operation.Effect.{Effect}
+use Rattle.sheet_ops.specs.declared.operation.Effect.TheVariants as effect
+use Rattle.sheet_ops.specs.LineIds.{LineId}
+use Rattle.sheet_ops.specs.Identity.{IdSheet}
+use Rattle.sheet_ops.specs.Naming.{step}
+use Rattle.sheet_ops.specs.Placed.{PlacedSheet, placed}
+use Rattle.sheet_ops.specs.Fits.{IsWellFormed, IsNew}
+
+-- one cell of the rows written, and some cells one after another
+abbrev pub cell_written : List (List Content) → Put → List (List Content)
+cell_written rows p = slice_set rows p.row (slice_set (slice_index_or rows p.row []) p.col p.content)
+
+abbrev pub cells_written : List (List Content) → List Put → List (List Content)
+cells_written rows [] = rows
+cells_written rows (p ∷ ps) = cells_written (cell_written rows p) ps
+
+abbrev pub effect_on : PlacedSheet → Effect → PlacedSheet
+effect_on P (effect.Write ps) = record P { cells = cells_written P.cells ps }
+
+-- whatever the lines of a sheet are called, the position step leads from the one to the other
+abbrev pub Steps : PlacedSheet → Effect → PlacedSheet → Type 0
+Steps old e new = (X : IdSheet) (id : LineId) → IsWellFormed X → IsNew X id → placed X ≡ old → placed (step X e id) ≡ new

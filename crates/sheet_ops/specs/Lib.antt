@@ -1,0 +1,11 @@
+pub mod LineIds
+pub mod Lines
+pub mod Identity
+pub mod Act
+pub mod Naming
+pub mod Placed
+pub mod Fits
+pub mod History
+pub mod Shown
+pub mod Effects
+pub mod Edits

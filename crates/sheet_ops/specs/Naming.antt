@@ -1,0 +1,50 @@
+-- From positions to identities and back.
+use Rattle.std.specs.Prelude.{ℕ, List, [], ◌∷◌, map}
+use Rattle.sheet_ops.specs.declared.content.Content.{Content}
+use Rattle.sheet_ops.specs.declared.content.Content.TheVariants as content
+use Rattle.sheet_ops.specs.declared.content.Put.{Put}
+use Rattle.sheet_ops.specs.declared.operation.Intent.{Intent}
+use Rattle.sheet_ops.specs.declared.operation.Intent.TheVariants as intent
+use Rattle.sheet_ops.specs.declared.operation.Effect.{Effect}
+use Rattle.sheet_ops.specs.declared.operation.Effect.TheVariants as effect
+use Rattle.sheet_ops.specs.LineIds.{LineId}
+use Rattle.sheet_ops.specs.Lines.{rec_place, rec_at}
+use Rattle.sheet_ops.specs.Identity.{IdContent, blank, number, IdPut, IdOp, write, IdSheet}
+use Rattle.sheet_ops.specs.Act.{puts_at}
+
+-- how many operations an intent counts for
+abbrev pub operations_of : Intent → ℕ
+operations_of (intent.Write ps) = 1
+
+module _ (X : IdSheet) where
+  abbrev pub resolve_content : Content → IdContent
+  resolve_content content.Empty = blank
+  resolve_content (content.Num z) = number z
+
+  abbrev pub locate_content : IdContent → Content
+  locate_content blank = content.Empty
+  locate_content (number z) = content.Num z
+
+  -- each position becomes what stands there
+  abbrev pub resolve_put : Put → IdPut
+  resolve_put p = record { row = rec_at X.rows p.row; col = rec_at X.cols p.col; content = resolve_content p.content }
+
+  -- each identity becomes the position where it stands
+  abbrev pub locate_put : IdPut → Put
+  locate_put p = record { row = rec_place X.rows p.row; col = rec_place X.cols p.col; content = locate_content p.content }
+
+  -- The operations by identity that an intent of a site means on the sheet that its author saw. The first of them is
+  -- that site's operation with this number.
+  abbrev pub resolve : ℕ → ℕ → Intent → List IdOp
+  resolve site first (intent.Write ps) = write (map resolve_put ps) ∷ []
+
+  abbrev pub locate : IdOp → Intent
+  locate (write ps) = intent.Write (map locate_put ps)
+
+  -- The position step: an effect done by its positions. A line that it brings gets this identifier.
+  abbrev pub step : Effect → LineId → IdSheet
+  step (effect.Write ps) id = record X { cells = puts_at X.cells (map resolve_put ps) }
+
+-- the effect of an intent on the sheet that its author saw
+abbrev pub effect_of_intent : Intent → Effect
+effect_of_intent (intent.Write ps) = effect.Write ps

@@ -1,0 +1,11 @@
+//! Operations on a shared sheet, and the definitions of what they mean: sheets and operations by
+//! identity, the history, and every view of it.
+#![tactic(auto)]
+
+mod content;
+mod edit;
+mod operation;
+
+pub use content::{Content, Put};
+pub use edit::{Edit, EditErr};
+pub use operation::{Effect, Entry, Intent};

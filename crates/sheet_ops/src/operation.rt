@@ -1,0 +1,86 @@
+ghost use Rattle.std.specs.Prelude.{◌≡◌, IfOk};
+ghost use Rattle.sheet_ops.specs.Naming.{effect_of_intent};
+
+use crate::content::Put;
+use ss_base::{Memory, Seq, Site};
+
+/// What a site asks for, by positions in the sheet that its author saw. Positions count from 0,
+/// hidden lines too.
+#[derive(Debug, Drop)]
+pub enum Intent {
+    /// Puts a content into each of these cells.
+    Write(Seq<Put>),
+}
+
+/// What an operation does to a sheet, by positions in that sheet. Positions count from 0, hidden
+/// lines too.
+#[derive(Debug, Drop)]
+pub enum Effect {
+    /// Puts a content into each of these cells.
+    Write(Seq<Put>),
+}
+
+/// One operation in the server's order.
+#[derive(Debug, Drop)]
+pub struct Entry {
+    pub site: Site,
+    /// How many entries of the history its author had taken.
+    pub seen: u32,
+    pub intent: Intent,
+}
+
+/// Equal puts, in the same order.
+fn copy_puts(puts: &Seq<Put>) -> Result<Seq<Put>, Memory>
+    ensures { IfOk result (λ s. s ≡ puts.now) }
+{
+    let mut copies = puts.empty_beside();
+    for put in puts.as_slice() {
+        copies.push(put.copy()?)?;
+    }
+    Ok(copies)
+}
+
+impl Intent {
+    /// An equal intent.
+    pub fn copy(&self) -> Result<Intent, Memory>
+        ensures { IfOk result (λ i. i ≡ self.now) }
+    {
+        match self {
+            Intent::Write(puts) => Ok(Intent::Write(copy_puts(puts)?)),
+        }
+    }
+
+    /// The effect that the intent has on the sheet that its author saw.
+    pub fn effect(&self) -> Result<Effect, Memory>
+        ensures { IfOk result (λ e. e ≡ effect_of_intent self.now) }
+    {
+        match self {
+            Intent::Write(puts) => Ok(Effect::Write(copy_puts(puts)?)),
+        }
+    }
+}
+
+impl Effect {
+    /// An equal effect.
+    pub fn copy(&self) -> Result<Effect, Memory>
+        ensures { IfOk result (λ e. e ≡ self.now) }
+    {
+        match self {
+            Effect::Write(puts) => Ok(Effect::Write(copy_puts(puts)?)),
+        }
+    }
+}
+
+impl Entry {
+    /// An equal entry.
+    pub fn copy(&self) -> Result<Entry, Memory>
+        ensures { IfOk result (λ e. e ≡ self.now) }
+    {
+        let intent = self.intent.copy()?;
+        Ok(Entry {
+            site: self.site,
+            seen: self.seen,
+            intent,
+        })
+    }
+}
