@@ -8,3 +8,6 @@ mod number;
 pub use cell::{read_cell, read_range};
 pub use column::{col_of, letters_of};
 pub use number::read_count;
+
+#[cfg(test)]
+mod tests;
