@@ -74,7 +74,11 @@ fn form_of_words(line: &[u8]) -> Option<Form<'_>>
 fn of_one_word<'a>(a: &'a [u8]) -> Option<Form<'a>>
     ensures { said result ≡ of_one_word a.now }
 {
-    if is_word(a, b"end") { Some(Form::End) } else { None }
+    if is_word(a, b"end") {
+        Some(Form::End)
+    } else {
+        None
+    }
 }
 
 fn of_two_words<'a>(a: &'a [u8], b: &'a [u8]) -> Option<Form<'a>>
@@ -85,9 +89,17 @@ fn of_two_words<'a>(a: &'a [u8], b: &'a [u8]) -> Option<Form<'a>>
     } else if is_word(a, b"show") {
         Some(Form::Show(name_of(b)?))
     } else if is_word(a, b"push") {
-        if is_word(b, b"all") { Some(Form::PushAll) } else { None }
+        if is_word(b, b"all") {
+            Some(Form::PushAll)
+        } else {
+            None
+        }
     } else if is_word(a, b"pull") {
-        if is_word(b, b"all") { Some(Form::PullAll) } else { None }
+        if is_word(b, b"all") {
+            Some(Form::PullAll)
+        } else {
+            None
+        }
     } else if is_word(b, b"push") {
         Some(Form::Push(name_of(a)?, None))
     } else if is_word(b, b"pull") {
@@ -130,7 +142,11 @@ fn of_more_words<'a>(a: &'a [u8], b: &'a [u8], c: &'a [u8], entry: &'a [u8]) -> 
     }
     let name = name_of(a)?;
     let spot = plain_cell(c)?;
-    if is_number(entry) { Some(Form::Set(name, spot, entry)) } else { None }
+    if is_number(entry) {
+        Some(Form::Set(name, spot, entry))
+    } else {
+        None
+    }
 }
 
 /// The cell of an address without `$`.
@@ -138,5 +154,9 @@ fn plain_cell(text: &[u8]) -> Option<Spot>
     ensures { result ≡ plain_cell (cell_of text.now) }
 {
     let spot = read_cell(text)?;
-    if spot.abs_row || spot.abs_col { None } else { Some(spot) }
+    if spot.abs_row || spot.abs_col {
+        None
+    } else {
+        Some(spot)
+    }
 }
