@@ -20,10 +20,7 @@ pub fn read_command(alloc: Global, line: &[u8]) -> Result<Command, LineFault>
 {
     match form_of(line) {
         None => Err(LineFault::Grammar),
-        Some(form) => match to_command(alloc, form) {
-            Ok(command) => Ok(command),
-            Err(_) => Err(LineFault::Memory),
-        },
+        Some(form) => Ok(to_command(alloc, form)?),
     }
 }
 
