@@ -1,5 +1,5 @@
 -- What an effect does to a sheet by positions.
-use Rattle.std.specs.Prelude.{ℕ, ◌≡◌, List, [], ◌∷◌, slice_set, slice_index_or}
+use Rattle.std.specs.Prelude.{◌≡◌, List, [], ◌∷◌, slice_set, slice_index_or}
 use Rattle.sheet_ops.specs.declared.content.Content.{Content}
 use Rattle.sheet_ops.specs.declared.content.Put.{Put}
 use Rattle.sheet_ops.specs.declared.operation.Effect.{Effect}
