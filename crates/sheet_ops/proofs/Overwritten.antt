@@ -1,11 +1,11 @@
 -- Writes in one order and the other.
 use Rattle.std.proofs.Common.{◌≡◌, ℕ, zero, suc, true, false, List, [], ◌∷◌, ◌++◌, refl, ap, sym, ◌∙◌, arith, inl, inr, ◌≢◌}
-use Rattle.std.specs.Prelude.{◌&&◌, ◌||◌, ◌⊎◌, not, nat_eq, filter, slice_set, slice_index_or}
+use Rattle.std.specs.Prelude.{◌&&◌, ◌||◌, ◌⊎◌, nat_eq, slice_set, slice_index_or}
 use Rattle.std.proofs.lemmas.Bool.Decides.{nat_tests}
 use Rattle.sheet_ops.specs.declared.content.Content.{Content}
 use Rattle.sheet_ops.specs.declared.content.Put.{Put}
 use Rattle.sheet_ops.specs.Fits.{same_cell, writes_cell}
-use Rattle.sheet_ops.specs.Effects.{cell_written, cells_written}
+use Rattle.sheet_ops.specs.Effects.{cell_written, cells_written, uncovered}
 use Rattle.sheet_ops.proofs.Ids.{same_number, both_true, true_or_false}
 
 module _ {A : Type 0} where
@@ -77,10 +77,6 @@ uncovered_later (p ∷ ps) rows e h = by_first (true_or_false (same_cell p e)) (
         cells_written (cell_written (cell_written rows e) p) ps ≡ cell_written (cells_written (cell_written rows p) ps) e
     by_first (inl k) rest = absurd (let g : same_cell p e || writes_cell ps e ≡ false = h in let clash : true ≡ false = rw k at g in cc)
     by_first (inr k) rest = ap (λ (m : List (List Content)). cells_written m ps) (apart_written rows e p k) ∙ rest (let g : same_cell p e || writes_cell ps e ≡ false = h in rw k at g)
-
--- what is left of some writes after others that come later
-abbrev pub uncovered : List Put → List Put → List Put
-uncovered ps es = filter (λ e. not (writes_cell ps e)) es
 
 -- Some writes, then others: the others, then what they don't cover of the first.
 pub cells_written-past : (ps es : List Put) (rows : List (List Content)) → cells_written (cells_written rows es) ps ≡ cells_written (cells_written rows ps) (uncovered ps es)

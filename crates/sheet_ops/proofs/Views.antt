@@ -15,17 +15,9 @@ use Rattle.sheet_ops.specs.Act.{puts_at, acts, acts_each}
 use Rattle.sheet_ops.specs.Naming.{resolve_put, resolve}
 use Rattle.sheet_ops.specs.Placed.{PlacedSheet, placed, size_of}
 use Rattle.sheet_ops.specs.History.{own_entries, operations, view_of, resolved_from, resolved, view}
-use Rattle.sheet_ops.specs.Effects.{cells_written}
+use Rattle.sheet_ops.specs.Effects.{cells_written, puts_of, written}
 use Rattle.sheet_ops.proofs.Ids.{length-opening_lines, opening_well_formed}
 use Rattle.sheet_ops.proofs.Written.{AllInside, placed-puts_at}
-
--- the cells that an intent writes, and those that some entries write
-abbrev pub puts_of : Intent → List Put
-puts_of (intent.Write ps) = ps
-
-abbrev pub written : List Entry → List Put
-written [] = []
-written (e ∷ es) = puts_of e.intent ++ written es
 
 pub written-append : (es fs : List Entry) → written (es ++ fs) ≡ written es ++ written fs
 written-append [] fs = refl
