@@ -1,3 +1,5 @@
 pub mod formers
+pub mod Feed
 pub mod Lines
+pub mod Search
 pub mod Streams
