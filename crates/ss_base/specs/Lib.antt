@@ -1,4 +1,5 @@
 pub mod formers
+pub mod Ends
 pub mod Feed
 pub mod Lines
 pub mod Search
