@@ -106,3 +106,84 @@ fn keep(line: &mut Vec<u8>, unfinished: bool)
         line.clear();
     }
 }
+
+#[cfg(test)]
+mod tests {
+    use super::*;
+    use crate::memory::MemSource;
+    use std::test::Fail;
+
+    const LONG: Result<Turn, LineErr> = Err(LineErr::TooLong);
+
+    #[test]
+    fn reads_lines_up_to_the_end(rt: HostRuntime) -> Result<(), Fail> {
+        let mut feed = LineFeed::new(rt.alloc())?;
+        let mut source = MemSource::new(rt.alloc(), b"ab\n\nlast", &[1, 3])?;
+        let turns = [
+            (Err(LineErr::ReadFault), b"".as_slice()),
+            (Ok(Turn::Line), b"ab"),
+            (Ok(Turn::Line), b""),
+            (Err(LineErr::ReadFault), b"last"),
+            (Ok(Turn::Line), b"last"),
+            (Ok(Turn::End), b""),
+            (Ok(Turn::End), b""),
+        ];
+        for (turn, line) in turns {
+            assert_eq!(rt; feed.read_line(&mut source), turn);
+            assert_eq!(rt; feed.line(), line);
+        }
+        Ok(())
+    }
+
+    #[test]
+    fn keeps_the_front_of_a_line_at_each_fault(rt: HostRuntime) -> Result<(), Fail> {
+        let mut bytes = vec![in rt.alloc(); b'x'; 12_000]?;
+        bytes[3999] = b'\n';
+        bytes[7999] = b'\n';
+        for fault in 1..5 {
+            let mut feed = LineFeed::new(rt.alloc())?;
+            let mut source = MemSource::new(rt.alloc(), &bytes, &[fault])?;
+            let mut faults = 0u8;
+            let mut lengths = Vec::new(rt.alloc());
+            for _ in 0..5 {
+                match feed.read_line(&mut source) {
+                    Ok(Turn::Line) => lengths.push(feed.line().len())?,
+                    Ok(Turn::End) => {}
+                    Err(_) => faults = faults.saturating_add(1),
+                }
+            }
+            assert_eq!(rt; lengths.as_slice(), [3999, 3999, 4000].as_slice());
+            assert_eq!(rt; faults, 1, "the read {fault} fails");
+        }
+        Ok(())
+    }
+
+    #[test]
+    fn refuses_lines_that_are_too_long(rt: HostRuntime) -> Result<(), Fail> {
+        for (length, turn) in [(LONGEST, Ok(Turn::Line)), (LONGEST + 1, LONG)] {
+            let mut feed = LineFeed::new(rt.alloc())?;
+            let mut bytes = vec![in rt.alloc(); b'x'; length]?;
+            bytes.push(b'\n')?;
+            let mut source = MemSource::new(rt.alloc(), &bytes, &[])?;
+            assert_eq!(rt; feed.read_line(&mut source), turn);
+            let again = if turn == LONG { LONG } else { Ok(Turn::End) };
+            assert_eq!(rt; feed.read_line(&mut source), again);
+        }
+        Ok(())
+    }
+
+    #[test]
+    fn refuses_what_ends_past_the_last_byte(rt: HostRuntime) -> Result<(), Fail> {
+        for (more, turn) in [(0, Ok(Turn::End)), (1, LONG)] {
+            let mut feed = LineFeed::new(rt.alloc())?;
+            let bytes = vec![in rt.alloc(); b'\n'; LAST + more]?;
+            let mut source = MemSource::new(rt.alloc(), &bytes, &[])?;
+            for _ in 0..LAST {
+                assert_eq!(rt; feed.read_line(&mut source), Ok(Turn::Line));
+            }
+            assert_eq!(rt; feed.read_line(&mut source), turn);
+            assert_eq!(rt; feed.read_line(&mut source), turn);
+        }
+        Ok(())
+    }
+}

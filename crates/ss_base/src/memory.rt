@@ -312,3 +312,56 @@ impl Sink for MemSink {
         }
     }
 }
+
+#[cfg(test)]
+mod tests {
+    use super::*;
+    use std::test::Fail;
+
+    #[test]
+    fn source_fails_at_chosen_reads(rt: HostRuntime) -> Result<(), Fail> {
+        let mut source = MemSource::new(rt.alloc(), b"abcd", &[1, 3])?;
+        let mut buf = [b'-'; 3];
+        let reads = [
+            (Err(Failed), b"---"),
+            (Ok(3), b"abc"),
+            (Err(Failed), b"abc"),
+            (Ok(1), b"dbc"),
+            (Ok(0), b"dbc"),
+        ];
+        for (answer, held) in reads {
+            assert_eq!(rt; source.read(&mut buf), answer);
+            assert_eq!(rt; buf, *held);
+        }
+        Ok(())
+    }
+
+    #[test]
+    fn sink_fails_at_chosen_writes_and_where_it_is_full(rt: HostRuntime) -> Result<(), Fail> {
+        let mut sink = MemSink::new(rt.alloc(), 4, &[2])?;
+        let writes = [
+            (b"abc".as_slice(), Ok(3), b"abc".as_slice()),
+            (b"d", Err(Failed), b"abc"),
+            (b"de", Ok(1), b"abcd"),
+            (b"e", Err(Failed), b"abcd"),
+            (b"", Ok(0), b"abcd"),
+        ];
+        for (piece, answer, taken) in writes {
+            assert_eq!(rt; sink.write(piece), answer);
+            assert_eq!(rt; sink.bytes(), taken);
+        }
+        Ok(())
+    }
+
+    #[test]
+    fn pure_ends_pass_bytes_on(rt: HostRuntime) -> Result<(), Fail> {
+        let mut source = PureSource::new(rt.alloc(), b"abc")?;
+        let mut sink = PureSink::new(rt.alloc(), 2)?;
+        let mut buf = [0; 3];
+        assert_eq!(rt; source.read(&mut buf), Ok(3));
+        assert_eq!(rt; sink.write(&buf), Ok(2));
+        assert_eq!(rt; sink.write(b"c"), Err(Failed));
+        assert_eq!(rt; sink.bytes(), b"ab".as_slice());
+        Ok(())
+    }
+}

@@ -68,3 +68,44 @@ impl<W: Write> Sink for StdSink<W> {
         }
     }
 }
+
+#[cfg(test)]
+mod tests {
+    use super::*;
+    use crate::stream::write_all;
+    use std::test::Fail;
+
+    #[test]
+    fn reads_to_the_end(rt: HostRuntime) -> Result<(), Fail> {
+        let bytes: &[u8] = b"abcd";
+        let mut source = StdSource::new(bytes);
+        let mut buf = [0; 3];
+        for (count, front) in [(3, b"abc"), (1, b"dbc"), (0, b"dbc")] {
+            assert_eq!(rt; source.read(&mut buf), Ok(count));
+            assert_eq!(rt; buf, *front);
+        }
+        Ok(())
+    }
+
+    #[test]
+    fn writes_to_a_vector(rt: HostRuntime) -> Result<(), Fail> {
+        let mut taken = Vec::new(rt.alloc());
+        let mut sink = StdSink::new(&mut taken);
+        write_all(&mut sink, b"ab")?;
+        write_all(&mut sink, b"c")?;
+        assert_eq!(rt; taken.as_slice(), b"abc".as_slice());
+        Ok(())
+    }
+
+    #[test]
+    fn fails_where_no_byte_is_taken(rt: HostRuntime) -> Result<(), Fail> {
+        let mut taken = [0; 3];
+        let mut sink = StdSink::new(taken.as_mut_slice());
+        for (piece, answer) in [(b"ab", Ok(2)), (b"cd", Ok(1)), (b"ef", Err(Failed))] {
+            assert_eq!(rt; sink.write(piece), answer);
+        }
+        assert_eq!(rt; sink.write(b""), Ok(0));
+        assert_eq!(rt; taken, *b"abc");
+        Ok(())
+    }
+}
