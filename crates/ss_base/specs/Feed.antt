@@ -1,5 +1,5 @@
 -- what a feed of lines keeps true of its fields
-use Rattle.std.specs.Prelude.{ℕ, ◌≤◌, Bool, if◌then◌else◌, List, [], ◌++◌, vec_len, vec_capacity}
+use Rattle.std.specs.Prelude.{◌≤◌, if◌then◌else◌, [], ◌++◌, vec_len, vec_capacity}
 use Rattle.ss_base.specs.Lines.{FeedState}
 use Rattle.ss_base.specs.Search.{NoFeed}
 use Rattle.ss_base.specs.declared.feed.LineFeed.TheInside.{Inside}

@@ -1,5 +1,5 @@
 -- The search for the end of a line in bytes that come piece by piece.
-use Rattle.std.specs.Prelude.{ℕ, ◌≡◌, ◌≢◌, Bool, true, false, nat_eq, List, [], ◌∷◌, ◌++◌, length, Option, Some, None, Result, Ok, Err}
+use Rattle.std.specs.Prelude.{ℕ, ◌≡◌, false, nat_eq, List, [], ◌∷◌, ◌++◌, length, Option, Some, None, Result, Ok, Err}
 use Rattle.ss_base.specs.declared.lines.LineErr.{LineErr}
 use Rattle.ss_base.specs.declared.lines.LineErr.TheVariants as fault
 use Rattle.ss_base.specs.declared.search.Found.{Found}

@@ -1,4 +1,4 @@
-use Rattle.std.proofs.Common.{◌≡◌, ◌∷◌, arith, ap, ◌∙◌, subst, drop, List, ℕ}
+use Rattle.std.proofs.Common.{arith}
 use Rattle.ss_base.proofs.Refilled.{Refills-on, Refills-push, NoFeed-push, not_feed}
 use Rattle.ss_base.proofs.search.find.Goals as goal
 

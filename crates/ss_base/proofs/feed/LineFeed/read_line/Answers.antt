@@ -1,4 +1,4 @@
-use Rattle.std.proofs.Common.{◌≡◌, ◌++◌, [], ap, sym, ◌∙◌, subst, List, ℕ, vec_len, arith, drop, refl}
+use Rattle.std.proofs.Common.{ap, sym, ◌∙◌, vec_len, arith, drop, refl}
 use Rattle.std.proofs.lemmas.Result.{err_from_is_err_and}
 use Rattle.ss_base.specs.Lines.{FeedState}
 use Rattle.ss_base.proofs.FirstLine.{gives_fed, gives_last, gives_late_feed, gives_late_last, gives_refusal, told_from, not_empty}

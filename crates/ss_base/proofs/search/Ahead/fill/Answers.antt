@@ -1,4 +1,4 @@
-use Rattle.std.proofs.Common.{◌≡◌, [], ap, ◌∙◌, arith, length, length-drop, length-take}
+use Rattle.std.proofs.Common.{ap, ◌∙◌, arith, length, length-drop, length-take}
 use Rattle.ss_base.proofs.search.Ahead.fill.Goals as goal
 
 pub returns-then-self-clause-end : goal.returns-then-self-clause-end
