@@ -1,0 +1,13 @@
+//! Addresses of cells and ranges, both ways.
+#![tactic(auto)]
+
+mod cell;
+mod column;
+mod number;
+
+pub use cell::{read_cell, read_range};
+pub use column::{col_of, letters_of};
+pub use number::read_count;
+
+#[cfg(test)]
+mod tests;
