@@ -89,7 +89,8 @@ impl LineFeed {
         }
     }
 
-    /// The last line that was read, without its line feed.
+    /// The last line that was read, without its line feed. After any other answer of `read_line` it is
+    /// the front of the next line, as far as it was read.
     pub fn line(&self) -> &[u8]
         ensures { result.now ≡ self.now.line }
     {
