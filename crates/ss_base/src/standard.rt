@@ -54,8 +54,8 @@ impl<R: Read> Source for StdSource<R> {
     }
 }
 
-/// A writer as a sink. It tells nothing of the bytes; contracts see the count of its faults. A writer that
-/// takes no byte of a piece that isn't empty has failed.
+/// A writer as a sink. It tells nothing of the bytes; contracts see the count of its faults. A writer
+/// that takes no byte of a piece that isn't empty has failed. Nothing is flushed here.
 #[derive(Debug, Drop)]
 pub struct StdSink<W: Write> {
     inner: W,
