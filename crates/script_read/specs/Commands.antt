@@ -1,5 +1,5 @@
 -- the command that a line of a script is
-use Rattle.std.specs.Prelude.{ℕ, nat_eq, nat_le, ◌||◌, ◌&&◌, Bool, true, false, if◌then◌else◌, List, [], ◌∷◌, codes, Option, Some, None, option_map, is_some}
+use Rattle.std.specs.Prelude.{ℕ, nat_eq, nat_le, ◌||◌, ◌&&◌, Bool, true, if◌then◌else◌, List, [], ◌∷◌, codes, Option, Some, None, option_map, is_some}
 use Rattle.std.specs.List.{list_all, join_with_byte}
 use Rattle.std.specs.Str.{bytes_eq}
 use Rattle.ss_base.specs.declared.types.Spot.{Spot}
@@ -40,36 +40,36 @@ set_of (Some name) (Some spot) entry =
 set_of _ _ _ = None
 
 abbrev pub of_one_word : List ℕ → Option Command
-of_one_word a = if bytes_eq a (codes "end") then Some command.End else None
+of_one_word first = if bytes_eq first (codes "end") then Some command.End else None
 
 abbrev pub of_two_words : List ℕ → List ℕ → Option Command
-of_two_words a b =
-    if bytes_eq a (codes "site") then option_map command.Site (named b)
-    else if bytes_eq a (codes "show") then option_map command.Show (named b)
-    else if bytes_eq a (codes "push") then (if bytes_eq b (codes "all") then Some command.PushAll else None)
-    else if bytes_eq a (codes "pull") then (if bytes_eq b (codes "all") then Some command.PullAll else None)
-    else if bytes_eq b (codes "push") then option_map (λ name. command.Push name None) (named a)
-    else if bytes_eq b (codes "pull") then option_map (λ name. command.Pull name None) (named a)
+of_two_words first second =
+    if bytes_eq first (codes "site") then option_map command.Site (named second)
+    else if bytes_eq first (codes "show") then option_map command.Show (named second)
+    else if bytes_eq first (codes "push") then (if bytes_eq second (codes "all") then Some command.PushAll else None)
+    else if bytes_eq first (codes "pull") then (if bytes_eq second (codes "all") then Some command.PullAll else None)
+    else if bytes_eq second (codes "push") then option_map (λ name. command.Push name None) (named first)
+    else if bytes_eq second (codes "pull") then option_map (λ name. command.Pull name None) (named first)
     else None
 
 abbrev pub of_three_words : List ℕ → List ℕ → List ℕ → Option Command
-of_three_words a b c =
-    if bytes_eq a (codes "sheet") then sheet_of (counted b) (counted c)
-    else if bytes_eq b (codes "push") then push_of (named a) (counted c)
-    else if bytes_eq b (codes "pull") then pull_of (named a) (counted c)
+of_three_words first second third =
+    if bytes_eq first (codes "sheet") then sheet_of (counted second) (counted third)
+    else if bytes_eq second (codes "push") then push_of (named first) (counted third)
+    else if bytes_eq second (codes "pull") then pull_of (named first) (counted third)
     else None
 
 -- the entry is the rest of the line, spaces included
 abbrev pub of_more_words : List ℕ → List ℕ → List ℕ → List ℕ → Option Command
-of_more_words a b c entry =
-    if bytes_eq b (codes "set") then set_of (named a) (plain_cell (cell_of c)) entry else None
+of_more_words first second third entry =
+    if bytes_eq second (codes "set") then set_of (named first) (plain_cell (cell_of third)) entry else None
 
 abbrev pub of_words : List (List ℕ) → Option Command
 of_words [] = None
-of_words (a ∷ []) = of_one_word a
-of_words (a ∷ b ∷ []) = of_two_words a b
-of_words (a ∷ b ∷ c ∷ []) = of_three_words a b c
-of_words (a ∷ b ∷ c ∷ d ∷ ds) = of_more_words a b c (join_with_byte 32 (d ∷ ds))
+of_words (first ∷ []) = of_one_word first
+of_words (first ∷ second ∷ []) = of_two_words first second
+of_words (first ∷ second ∷ third ∷ []) = of_three_words first second third
+of_words (first ∷ second ∷ third ∷ fourth ∷ others) = of_more_words first second third (join_with_byte 32 (fourth ∷ others))
 
 -- an empty line, or one that begins with `#`
 abbrev pub is_note : List ℕ → Bool

@@ -1,5 +1,5 @@
 -- the command that a form of a line says
-use Rattle.std.specs.Prelude.{Option, Some, None, option_map, ◌≡◌, ◌∷◌, [], ◌++◌, List, ℕ}
+use Rattle.std.specs.Prelude.{Option, Some, None, option_map, ◌≡◌, ◌∷◌, [], List, ℕ}
 use Rattle.sheet_ops.specs.declared.edit.Edit.TheVariants as edit
 use Rattle.script_read.specs.declared.command.Command.{Command}
 use Rattle.script_read.specs.declared.command.Command.TheVariants as command

@@ -1,3 +1,6 @@
+ghost use Rattle.std.specs.Prelude.{◌≡◌};
+ghost use Rattle.script_read.specs.declared.command.LineFault.TheVariants as line_fault;
+
 use sheet_ops::Edit;
 use ss_base::{Memory, Size, Txt};
 use thiserror::Error;
@@ -38,6 +41,8 @@ pub enum LineFault {
 }
 
 impl From<Memory> for LineFault {
+    ghost from_gives = { λ _ fault. fault ≡ line_fault.Memory };
+
     fn from(_: Memory) -> LineFault {
         LineFault::Memory
     }

@@ -20,10 +20,7 @@ pub fn read_command(alloc: Global, line: &[u8]) -> Result<Command, LineFault>
 {
     match form_of(line) {
         None => Err(LineFault::Grammar),
-        Some(form) => match to_command(alloc, form) {
-            Ok(command) => Ok(command),
-            Err(_) => Err(LineFault::Memory),
-        },
+        Some(form) => Ok(to_command(alloc, form)?),
     }
 }
 
@@ -56,56 +53,68 @@ fn is_note(line: &[u8]) -> bool
 fn form_of_words(line: &[u8]) -> Option<Form<'_>>
     ensures { said result ≡ of_words (words line.now) }
 {
-    let (a, rest) = cut(line);
+    let (first, rest) = cut(line);
     let Some(rest) = rest else {
-        return of_one_word(a);
+        return of_one_word(first);
     };
-    let (b, rest) = cut(rest);
+    let (second, rest) = cut(rest);
     let Some(rest) = rest else {
-        return of_two_words(a, b);
+        return of_two_words(first, second);
     };
-    let (c, entry) = cut(rest);
+    let (third, entry) = cut(rest);
     match entry {
-        None => of_three_words(a, b, c),
-        Some(entry) => of_more_words(a, b, c, entry),
+        None => of_three_words(first, second, third),
+        Some(entry) => of_more_words(first, second, third, entry),
     }
 }
 
-fn of_one_word<'a>(a: &'a [u8]) -> Option<Form<'a>>
-    ensures { said result ≡ of_one_word a.now }
+fn of_one_word<'a>(first: &'a [u8]) -> Option<Form<'a>>
+    ensures { said result ≡ of_one_word first.now }
 {
-    if is_word(a, b"end") { Some(Form::End) } else { None }
-}
-
-fn of_two_words<'a>(a: &'a [u8], b: &'a [u8]) -> Option<Form<'a>>
-    ensures { said result ≡ of_two_words a.now b.now }
-{
-    if is_word(a, b"site") {
-        Some(Form::Site(name_of(b)?))
-    } else if is_word(a, b"show") {
-        Some(Form::Show(name_of(b)?))
-    } else if is_word(a, b"push") {
-        if is_word(b, b"all") { Some(Form::PushAll) } else { None }
-    } else if is_word(a, b"pull") {
-        if is_word(b, b"all") { Some(Form::PullAll) } else { None }
-    } else if is_word(b, b"push") {
-        Some(Form::Push(name_of(a)?, None))
-    } else if is_word(b, b"pull") {
-        Some(Form::Pull(name_of(a)?, None))
+    if is_word(first, b"end") {
+        Some(Form::End)
     } else {
         None
     }
 }
 
-fn of_three_words<'a>(a: &'a [u8], b: &'a [u8], c: &'a [u8]) -> Option<Form<'a>>
-    ensures { said result ≡ of_three_words a.now b.now c.now }
+fn of_two_words<'a>(first: &'a [u8], second: &'a [u8]) -> Option<Form<'a>>
+    ensures { said result ≡ of_two_words first.now second.now }
 {
-    if is_word(a, b"sheet") {
-        sheet_of(read_count(b)?, read_count(c)?)
-    } else if is_word(b, b"push") {
-        Some(Form::Push(name_of(a)?, Some(read_count(c)?)))
-    } else if is_word(b, b"pull") {
-        Some(Form::Pull(name_of(a)?, Some(read_count(c)?)))
+    if is_word(first, b"site") {
+        Some(Form::Site(name_of(second)?))
+    } else if is_word(first, b"show") {
+        Some(Form::Show(name_of(second)?))
+    } else if is_word(first, b"push") {
+        if is_word(second, b"all") {
+            Some(Form::PushAll)
+        } else {
+            None
+        }
+    } else if is_word(first, b"pull") {
+        if is_word(second, b"all") {
+            Some(Form::PullAll)
+        } else {
+            None
+        }
+    } else if is_word(second, b"push") {
+        Some(Form::Push(name_of(first)?, None))
+    } else if is_word(second, b"pull") {
+        Some(Form::Pull(name_of(first)?, None))
+    } else {
+        None
+    }
+}
+
+fn of_three_words<'a>(first: &'a [u8], second: &'a [u8], third: &'a [u8]) -> Option<Form<'a>>
+    ensures { said result ≡ of_three_words first.now second.now third.now }
+{
+    if is_word(first, b"sheet") {
+        sheet_of(read_count(second)?, read_count(third)?)
+    } else if is_word(second, b"push") {
+        Some(Form::Push(name_of(first)?, Some(read_count(third)?)))
+    } else if is_word(second, b"pull") {
+        Some(Form::Pull(name_of(first)?, Some(read_count(third)?)))
     } else {
         None
     }
@@ -122,15 +131,24 @@ fn sheet_of<'a>(rows: u32, cols: u32) -> Option<Form<'a>>
     }
 }
 
-fn of_more_words<'a>(a: &'a [u8], b: &'a [u8], c: &'a [u8], entry: &'a [u8]) -> Option<Form<'a>>
-    ensures { said result ≡ of_more_words a.now b.now c.now entry.now }
+fn of_more_words<'a>(
+    first: &'a [u8],
+    second: &'a [u8],
+    third: &'a [u8],
+    entry: &'a [u8],
+) -> Option<Form<'a>>
+    ensures { said result ≡ of_more_words first.now second.now third.now entry.now }
 {
-    if !is_word(b, b"set") {
+    if !is_word(second, b"set") {
         return None;
     }
-    let name = name_of(a)?;
-    let spot = plain_cell(c)?;
-    if is_number(entry) { Some(Form::Set(name, spot, entry)) } else { None }
+    let name = name_of(first)?;
+    let spot = plain_cell(third)?;
+    if is_number(entry) {
+        Some(Form::Set(name, spot, entry))
+    } else {
+        None
+    }
 }
 
 /// The cell of an address without `$`.
@@ -138,5 +156,9 @@ fn plain_cell(text: &[u8]) -> Option<Spot>
     ensures { result ≡ plain_cell (cell_of text.now) }
 {
     let spot = read_cell(text)?;
-    if spot.abs_row || spot.abs_col { None } else { Some(spot) }
+    if spot.abs_row || spot.abs_col {
+        None
+    } else {
+        Some(spot)
+    }
 }

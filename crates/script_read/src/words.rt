@@ -1,6 +1,7 @@
-ghost use Rattle.std.specs.Prelude.{◌≡◌, ◌≤◌, ◌^◌, ◌↔◌, IsTrue, option_copied, option_map, is_some, length, drop, position};
+ghost use Rattle.std.specs.Prelude.{◌≡◌, ◌≤◌, ◌<◌, ◌^◌, ◌↔◌, IfSome, IsTrue, option_copied, option_map, is_some, length, drop, position};
+ghost use Rattle.std.specs.Char.{is_ascii_digit};
 ghost use Rattle.std.specs.List.{list_all};
-ghost use Rattle.std.specs.Str.{bytes_eq, all_ascii_digits};
+ghost use Rattle.std.specs.Str.{bytes_eq};
 ghost use Rattle.std.specs.Str.Parse.{digits_value};
 ghost use Rattle.sheet_ops.specs.Edits.{number_of};
 ghost use Rattle.script_read.specs.Forms.{CutsWord};
@@ -13,13 +14,18 @@ const RESERVED: &[u8] = b"sheet site push pull recalc show values history wire e
 pub fn cut(text: &[u8]) -> (&[u8], Option<&[u8]>)
     ensures { CutsWord text.now result.0.now (option_copied result.1) }
 {
-    match text.iter().position(|b| *b == b' ') {
+    match space_in(text) {
         None => (text, None),
-        Some(space) => {
-            let (word, rest) = text.split_at(space);
-            (word, Some(&rest[1..]))
-        }
+        Some(space) => (&text[..space], Some(&text[space + 1..])),
     }
+}
+
+/// Where the first space stands.
+fn space_in(text: &[u8]) -> Option<usize>
+    ensures place { result ≡ position is_space text.now }
+    ensures within { IfSome result (λ space. space < length text.now) }
+{
+    text.iter().position(|b| *b == b' ')
 }
 
 pub fn is_word(text: &[u8], word: &[u8]) -> bool
@@ -41,7 +47,10 @@ fn is_name(text: &[u8]) -> bool
     match text {
         [] => false,
         [first, others @ ..] => {
-            first.is_ascii_lowercase() && are_name_bytes(others) && others.len() <= 15 && !is_reserved(text)
+            first.is_ascii_lowercase()
+                && are_name_bytes(others)
+                && others.len() <= 15
+                && !is_reserved(text)
         }
     }
 }
@@ -49,13 +58,16 @@ fn is_name(text: &[u8]) -> bool
 fn are_name_bytes(text: &[u8]) -> bool
     ensures { result ≡ list_all is_name_byte text.now }
 {
-    text.iter().all(|b| b.is_ascii_lowercase() || b.is_ascii_digit())
+    text.iter()
+        .all(|b| b.is_ascii_lowercase() || b.is_ascii_digit())
 }
 
 fn is_reserved(text: &[u8]) -> bool
     ensures { result ≡ is_reserved text.now }
 {
-    RESERVED.split(|b| *b == b' ').any(|word| is_word(text, word))
+    RESERVED
+        .split(|b| *b == b' ')
+        .any(|word| is_word(text, word))
 }
 
 /// Whether a text is an optional `-` and digits, in the range of `i64`.
@@ -71,27 +83,30 @@ pub fn is_number(text: &[u8]) -> bool
 /// Whether a text is one or more digits of a number up to this limit.
 fn is_magnitude(text: &[u8], limit: u64) -> bool
     requires { limit ≤ 2 ^ 63 }
-    ensures { IsTrue result ↔ ((1 ≤ length text.now) × IsTrue (all_ascii_digits text.now) × (digits_value 10 text.now ≤ limit)) }
+    ensures { IsTrue result ↔ ((1 ≤ length text.now) × IsTrue (list_all is_ascii_digit text.now) × (digits_value 10 text.now ≤ limit)) }
 {
     !text.is_empty() && are_digits(text) && fits(text, limit)
 }
 
 fn are_digits(text: &[u8]) -> bool
-    ensures { result ≡ all_ascii_digits text.now }
+    ensures { result ≡ list_all is_ascii_digit text.now }
 {
     text.iter().all(|b| b.is_ascii_digit())
 }
 
 /// Whether digits are a number up to this limit.
 fn fits(digits: &[u8], limit: u64) -> bool
-    requires digits { IsTrue (all_ascii_digits digits.now) }
+    requires digits { IsTrue (list_all is_ascii_digit digits.now) }
     requires limit { limit ≤ 2 ^ 63 }
     ensures { IsTrue result ↔ (digits_value 10 digits.now ≤ limit) }
 {
     let mut value = 0u64;
     for digit in digits {
         let digit = u64::from(*digit - b'0');
-        if digit > limit || value > (limit - digit) / 10 {
+        let Some(room) = limit.checked_sub(digit) else {
+            return false;
+        };
+        if value > room / 10 {
             return false;
         }
         value = value * 10 + digit;
