@@ -1,8 +1,7 @@
 -- Lines of which none is marked.
 use Rattle.std.proofs.Common.{◌≡◌, ℕ, zero, suc, ◌+◌, ◌<◌, ◌≤◌, Bool, true, false, List, length, refl, ap, sym, ◌∙◌, arith}
-use Rattle.std.specs.Prelude.{not, nat_eq, nat_lt, cond, replicate, position, slice_get, Option, Some, None}
-use Rattle.std.specs.List.{prefix_len}
-use Rattle.std.proofs.lemmas.Bool.Decides.{nat_tests}
+use Rattle.std.specs.Prelude.{replicate, take, ◌∷◌, slice_get, slice_index_or, Option, Some, None}
+use Rattle.sheet_grid.specs.Cells.{visible_index}
 use Rattle.sheet_ops.specs.Lines.{visible_from, visible_places}
 
 next : (first k : ℕ) → suc first + k ≡ first + suc k
@@ -32,36 +31,26 @@ length-visible_from first (suc count) = ap suc (length-visible_from (suc first) 
 pub length-visible : (count : ℕ) → length (visible_places (replicate count false)) ≡ count
 length-visible count = length-visible_from 0 count
 
--- how many visible lines stand before a place
-before : (first count k : ℕ) → k ≤ count → prefix_len (λ p. not (nat_eq p (first + k))) (visible_from first (replicate count false)) ≡ k
-before first zero k h = omega arith
-before first (suc count) zero h = let e : nat_eq first (first + 0) ≡ true = grind (arith, nat_tests) in simp e
-before first (suc count) (suc k) h =
-    let e : nat_eq first (first + suc k) ≡ false = grind (arith, nat_tests) in
-    let rest : prefix_len (λ p. not (nat_eq p (first + suc k))) (visible_from (suc first) (replicate count false)) ≡ k =
-        ap (λ (n : ℕ). prefix_len (λ p. not (nat_eq p n)) (visible_from (suc first) (replicate count false))) (sym (next first k)) ∙ before (suc first) count k (omega arith) in
-    simp e (omega (arith, rest))
+take-replicate : (count k : ℕ) → k ≤ count → take k (replicate count false) ≡ replicate k false
+take-replicate count zero h = refl
+take-replicate zero (suc k) h = absurd (omega arith)
+take-replicate (suc count) (suc k) h = ap (λ (ms : List Bool). false ∷ ms) (take-replicate count k (omega arith))
 
-before_all : (first count place : ℕ) → first + count ≤ place → prefix_len (λ p. not (nat_eq p place)) (visible_from first (replicate count false)) ≡ count
-before_all first zero place h = refl
-before_all first (suc count) place h =
-    let e : nat_eq first place ≡ false = grind (arith, nat_tests) in
-    let rest = before_all (suc first) count place (omega arith) in
-    simp e (omega (arith, rest))
+mark-there : (count k : ℕ) → k < count → slice_index_or (replicate count false) k true ≡ false
+mark-there zero k h = absurd (omega arith)
+mark-there (suc count) zero h = refl
+mark-there (suc count) (suc k) h = mark-there count k (omega arith)
 
--- the first of a list that passes
-found : (p : ℕ → Bool) (xs : List ℕ) (k : ℕ) → prefix_len (λ x. not (p x)) xs ≡ k → k < length xs → Some k ≡ position p xs
-found p xs k e h = let t : nat_lt (prefix_len (λ x. not (p x)) xs) (length xs) ≡ true = grind (arith, nat_tests) in simp t (ap Some (sym e))
-
-not_found : (p : ℕ → Bool) (xs : List ℕ) → prefix_len (λ x. not (p x)) xs ≡ length xs → None ≡ position p xs
-not_found p xs e = let t : nat_lt (prefix_len (λ x. not (p x)) xs) (length xs) ≡ false = grind (arith, nat_tests) in simp t
+mark-past : (count k : ℕ) → count ≤ k → slice_index_or (replicate count false) k true ≡ true
+mark-past zero k h = refl
+mark-past (suc count) zero h = absurd (omega arith)
+mark-past (suc count) (suc k) h = mark-past count k (omega arith)
 
 -- the visible index of a place
-pub seen_there : (count place : ℕ) → place < count → Some place ≡ position (λ p. nat_eq p place) (visible_places (replicate count false))
+pub seen_there : (count place : ℕ) → place < count → Some place ≡ visible_index (replicate count false) place
 seen_there count place h =
-    let at : prefix_len (λ p. not (nat_eq p place)) (visible_places (replicate count false)) ≡ place =
-        ap (λ (n : ℕ). prefix_len (λ p. not (nat_eq p n)) (visible_places (replicate count false))) (let z : place ≡ 0 + place = omega arith in z) ∙ before 0 count place (omega arith) in
-    found (λ p. nat_eq p place) (visible_places (replicate count false)) place at (let l = length-visible count in omega (arith, l))
+    let before : length (visible_places (take place (replicate count false))) ≡ place = ap (λ (ms : List Bool). length (visible_places ms)) (take-replicate count place (omega arith)) ∙ length-visible place in
+    simp (mark-there count place h) (ap Some (sym before))
 
-pub seen_past : (count place : ℕ) → count ≤ place → None ≡ position (λ p. nat_eq p place) (visible_places (replicate count false))
-seen_past count place h = not_found (λ p. nat_eq p place) (visible_places (replicate count false)) (before_all 0 count place (omega arith) ∙ sym (length-visible count))
+pub seen_past : (count place : ℕ) → count ≤ place → None ≡ visible_index (replicate count false) place
+seen_past count place h = simp (mark-past count place h)

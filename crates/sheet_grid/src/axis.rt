@@ -1,5 +1,6 @@
-ghost use Rattle.std.specs.Prelude.{◌≡◌, false, nat_eq, replicate, position, slice_get};
+ghost use Rattle.std.specs.Prelude.{◌≡◌, false, replicate, slice_get};
 ghost use Rattle.sheet_ops.specs.Lines.{visible_places};
+ghost use Rattle.sheet_grid.specs.Cells.{visible_index};
 
 /// The position of the line with this visible index, of so many lines of which none is marked.
 pub fn line_at(count: u32, visible: u32) -> Option<u32>
@@ -10,7 +11,7 @@ pub fn line_at(count: u32, visible: u32) -> Option<u32>
 
 /// The visible index of the line at this position, of so many lines of which none is marked.
 pub fn line_seen(count: u32, place: u32) -> Option<u32>
-    ensures { result ≡ position (λ p. nat_eq p place) (visible_places (replicate count false)) }
+    ensures { result ≡ visible_index (replicate count false) place }
 {
     if place < count { Some(place) } else { None }
 }

@@ -5,14 +5,14 @@ mod axis;
 mod row;
 mod write;
 
-ghost use Rattle.std.specs.Prelude.{◌≡◌, ◌≢◌, ◌<◌, ◌≤◌, ℕ, length, position, nat_eq, slice_get, IfOk, OnOk, OnErr, IfSome, IfNone};
+ghost use Rattle.std.specs.Prelude.{◌≡◌, ◌≢◌, ◌<◌, ◌≤◌, ℕ, length, slice_get, IfOk, OnOk, OnErr, IfSome, IfNone};
 ghost use Rattle.sheet_ops.specs.declared.content.Content.TheVariants as content;
 ghost use Rattle.sheet_ops.specs.Identity.{opened};
 ghost use Rattle.sheet_ops.specs.Lines.{visible_places};
 ghost use Rattle.sheet_ops.specs.Placed.{placed, placed_size, cell_at};
 ghost use Rattle.sheet_ops.specs.Fits.{EffectFits};
 ghost use Rattle.sheet_ops.specs.Effects.{effect_on, Steps};
-ghost use Rattle.sheet_grid.specs.Cells.{kind_of, visible_size};
+ghost use Rattle.sheet_grid.specs.Cells.{kind_of, visible_index, visible_size};
 
 use crate::axis::{line_at, line_seen};
 use crate::row::{empty_rows, filled_from, kind_in};
@@ -107,9 +107,9 @@ impl Sheet {
     }
 
     /// The visible index of the column at this position, and `None` exactly where it is hidden or
-    /// there is none.
+    /// isn't there.
     pub fn col_seen(&self, col: u32) -> Option<u32>
-        ensures { result ≡ position (λ c. nat_eq c col) (visible_places self.now.cols) }
+        ensures { result ≡ visible_index self.now.cols col }
     {
         line_seen(self.cols, col)
     }

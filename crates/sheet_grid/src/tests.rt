@@ -1,3 +1,6 @@
+ghost use Rattle.std.specs.Prelude.{◌≡◌, ◌<◌, [], ◌∷◌, length, IfOk};
+ghost use Rattle.sheet_ops.specs.declared.operation.Effect.TheVariants as effect;
+
 use crate::{Kind, Sheet};
 use sheet_ops::{Content, Effect, Put};
 use ss_base::{Memory, Seq, Size};
@@ -5,11 +8,15 @@ use std::alloc::Global;
 use std::process::Abort;
 use std::test::Fail;
 
-fn put(row: u32, col: u32, content: Content) -> Put {
+fn put(row: u32, col: u32, content: Content) -> Put
+    ensures { result ≡ record { row = row; col = col; content = content } }
+{
     Put { row, col, content }
 }
 
-fn write(alloc: Global, first: Put, second: Put) -> Result<Effect, Memory> {
+fn write(alloc: Global, first: Put, second: Put) -> Result<Effect, Memory>
+    ensures { IfOk result (λ e. e ≡ effect.Write (first ∷ second ∷ [])) }
+{
     let mut puts = Seq::new(alloc);
     puts.push(first)?;
     puts.push(second)?;
