@@ -13,9 +13,9 @@ use Rattle.sheet_ops.specs.LineIds.{LineId}
 use Rattle.sheet_ops.specs.Identity.{IdContent, blank, IdPut, IdOp, write, IdSheet, opened}
 use Rattle.sheet_ops.specs.Act.{puts_at, acts, acts_each}
 use Rattle.sheet_ops.specs.Naming.{resolve_put, resolve}
-use Rattle.sheet_ops.specs.Placed.{PlacedSheet, placed, size_of}
+use Rattle.sheet_ops.specs.Placed.{placed, size_of}
 use Rattle.sheet_ops.specs.History.{own_entries, operations, view_of, resolved_from, resolved, view}
-use Rattle.sheet_ops.specs.Effects.{cells_written, puts_of, written}
+use Rattle.sheet_ops.specs.Effects.{written_sheet, puts_of, written}
 use Rattle.sheet_ops.proofs.Ids.{length-opening_lines, opening_well_formed}
 use Rattle.sheet_ops.proofs.Written.{AllInside, placed-puts_at}
 
@@ -137,19 +137,15 @@ module _ (size : Size) where
       ap (λ (Rs : List (List IdOp)). view_of size H Rs site taken (reverse G)) (resolved-is H)
       ∙ (view_of-is H site (reverse G) taken ∙ ap (λ (es : List Entry). after_puts (written (take taken H) ++ written (left H site taken es))) (reverse-reverse G))
 
-  -- the opening sheet by positions, after some writes
-  abbrev pub written_sheet : List Put → PlacedSheet
-  written_sheet ps = record (placed (opened size)) { cells = cells_written (placed (opened size)).cells ps }
-
-  opened_size : size_of (opened size) ≡ size
+  pub opened_size : size_of (opened size) ≡ size
   opened_size = λ i. record { rows = length-opening_lines 0 size.rows i; cols = length-opening_lines 0 size.cols i }
 
-  pub placed-after_puts : (ps : List Put) → AllInside size ps → placed (after_puts ps) ≡ written_sheet ps
+  pub placed-after_puts : (ps : List Put) → AllInside size ps → placed (after_puts ps) ≡ written_sheet size ps
   placed-after_puts ps inside =
       ap (λ (rows : List (List Content)). record (placed (opened size)) { cells = rows })
       (placed-puts_at (opened size) (record { rows = opening_well_formed (opened size).rows size.rows refl; cols = opening_well_formed (opened size).cols size.cols refl })
       (λ _ _. blank) ps (subst (λ (s : Size). AllInside s ps) (sym opened_size) inside))
 
   pub placed-view : (H : List Entry) (site taken : ℕ) (G : List Entry) → AllInside size (written (take taken H) ++ written (left H site taken G)) →
-      placed (view size H site taken G) ≡ written_sheet (written (take taken H) ++ written (left H site taken G))
+      placed (view size H site taken G) ≡ written_sheet size (written (take taken H) ++ written (left H site taken G))
   placed-view H site taken G inside = ap placed (view-is H site taken G) ∙ placed-after_puts (written (take taken H) ++ written (left H site taken G)) inside

@@ -1,5 +1,6 @@
 -- What an effect does to a sheet by positions.
 use Rattle.std.specs.Prelude.{◌≡◌, ◌++◌, not, filter, List, [], ◌∷◌, slice_set, slice_index_or}
+use Rattle.ss_base.specs.declared.types.Size.{Size}
 use Rattle.sheet_ops.specs.declared.content.Content.{Content}
 use Rattle.sheet_ops.specs.declared.content.Put.{Put}
 use Rattle.sheet_ops.specs.declared.operation.Effect.{Effect}
@@ -8,7 +9,7 @@ use Rattle.sheet_ops.specs.declared.operation.Intent.{Intent}
 use Rattle.sheet_ops.specs.declared.operation.Intent.TheVariants as intent
 use Rattle.sheet_ops.specs.declared.operation.Effect.TheVariants as effect
 use Rattle.sheet_ops.specs.LineIds.{LineId}
-use Rattle.sheet_ops.specs.Identity.{IdSheet}
+use Rattle.sheet_ops.specs.Identity.{IdSheet, opened}
 use Rattle.sheet_ops.specs.Naming.{step}
 use Rattle.sheet_ops.specs.Placed.{PlacedSheet, placed}
 use Rattle.sheet_ops.specs.Fits.{writes_cell, IsWellFormed, IsNew}
@@ -39,3 +40,7 @@ written (e ∷ es) = puts_of e.intent ++ written es
 -- what is left of some writes after others that come later: a cell that the others write too is lost
 abbrev pub uncovered : List Put → List Put → List Put
 uncovered ps es = filter (λ e. not (writes_cell ps e)) es
+
+-- the opening sheet by positions, after some writes
+abbrev pub written_sheet : Size → List Put → PlacedSheet
+written_sheet size ps = record (placed (opened size)) { cells = cells_written (placed (opened size)).cells ps }

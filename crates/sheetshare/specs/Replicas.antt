@@ -12,7 +12,9 @@ use Rattle.sheet_ops.specs.Naming.{effect_of_intent}
 use Rattle.sheet_ops.specs.History.{operations}
 use Rattle.sheet_ops.specs.Effects.{effect_on, puts_of, written, uncovered}
 use Rattle.sheet_ops.specs.Edits.{intended_by}
+use Rattle.sheet_ops.specs.Placed.{PlacedSheet}
 use Rattle.sheetshare.specs.declared.replica.Replica.{Replica}
+use Rattle.sheetshare.specs.World.{unless_spent}
 
 -- the own entries that are not acknowledged
 abbrev pub pending : Replica → List Entry
@@ -21,11 +23,6 @@ pending r = drop r.acknowledged r.made
 -- the entry that an own intent makes
 abbrev pub entry_of : Replica → Site → Intent → Entry
 entry_of r site op = record { site = site; seen = r.taken; intent = op }
-
--- a site has 1,000 operations
-abbrev pub unless_spent : ℕ → Result Intent EditErr → Result Intent EditErr
-unless_spent issued (Err e) = Err e
-unless_spent issued (Ok op) = if nat_lt issued 1000 then Ok op else Err fault.Spent
 
 -- what an edit comes to
 abbrev pub decided : Replica → Edit → Result Intent EditErr
@@ -39,9 +36,18 @@ issued_by r site op = record r { made = r.made ++ entry_of r site op ∷ []; she
 abbrev pub effect_past : List Entry → Intent → Effect
 effect_past own op = effect.Write (uncovered (written own) (puts_of op))
 
+-- the sheet after another's entry
+abbrev pub sheet_past : Replica → Entry → PlacedSheet
+sheet_past r e = effect_on r.sheet (effect_past (pending r) e.intent)
+
 -- after the next entry of the history: an own one is acknowledged, another's is done past the pending ones
 abbrev pub taken_by : Replica → Site → Entry → Replica
 taken_by r site e =
     if nat_eq e.site.0 site.0
     then record r { taken = r.taken + 1; acknowledged = r.acknowledged + 1 }
-    else record r { taken = r.taken + 1; sheet = effect_on r.sheet (effect_past (pending r) e.intent) }
+    else record r { taken = r.taken + 1; sheet = sheet_past r e }
+
+-- after an edit, which leaves the replica where it is refused
+abbrev pub after_edit : Replica → Site → Result Intent EditErr → Replica
+after_edit r site (Err e) = r
+after_edit r site (Ok op) = issued_by r site op

@@ -1,9 +1,14 @@
 -- what sources and sinks in memory keep
-use Rattle.std.specs.Prelude.{ℕ, ◌≡◌, ◌+◌, ◌-◌, ◌^◌, ◌<◌, min, List, length, Contains}
+use Rattle.std.specs.Prelude.{ℕ, ◌≡◌, ◌+◌, ◌-◌, ◌^◌, ◌<◌, min, List, length, Contains, Result, Ok, Err}
 
 -- one more, and at the last number of 64 bits no more
 abbrev pub count_up : ℕ → ℕ
 count_up n = min (n + 1) (2 ^ 64 - 1)
+
+-- a count of failures after a call that answered this
+abbrev pub counted : {T E : Type 0} → ℕ → Result T E → ℕ
+counted n (Ok _) = n
+counted n (Err _) = count_up n
 
 -- Which calls are to fail, and how many calls there were and failed.
 pub record PlanState : Type 0 where

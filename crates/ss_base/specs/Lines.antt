@@ -55,7 +55,8 @@ GivesLine (Some old) (Some new) held (Err fault.ReadFault) = new ≡ old
 -- How far a reading moves on, by the bytes used before and after it and the line held after it: past a line of at
 -- most 4,096 bytes, with its line feed if it has one, up to byte 1,048,576 at most; and else not at all.
 abbrev pub MovesOn : ℕ → ℕ → List ℕ → Result Turn LineErr → Type 0
-MovesOn old new held (Ok turn.Line) = (old < new) × (new ≤ 1048576) × (length held ≤ 4096) × ((new ≡ old + length held + 1) ⊎ (new ≡ old + length held))
+MovesOn old new held (Ok turn.Line) =
+    (old < new) × (new ≤ 1048576) × (length held ≤ 4096) × ((new ≡ old + length held + 1) ⊎ (new ≡ old + length held))
 MovesOn old new held (Ok turn.End) = new ≡ old
 MovesOn old new held (Err fault.TooLong) = new ≡ old
 MovesOn old new held (Err fault.ReadFault) = new ≡ old

@@ -31,5 +31,6 @@ NoFeed (b ∷ bs) = (nat_eq b 10 ≡ false) × NoFeed bs
 abbrev pub StopsAt : List ℕ → List ℕ → Option (List ℕ) → Result Found LineErr → Type 0
 StopsAt line ahead left (Ok found.Feed) = (rest : List ℕ) × (ahead ≡ 10 ∷ rest)
 StopsAt line ahead left (Ok found.End) = (ahead ≡ []) × IsEndOf left
-StopsAt line ahead left (Err fault.TooLong) = (length line ≡ 4096) × ((b : ℕ) × (rest : List ℕ) × (ahead ≡ b ∷ rest) × (nat_eq b 10 ≡ false))
+StopsAt line ahead left (Err fault.TooLong) =
+    (length line ≡ 4096) × ((b : ℕ) × (rest : List ℕ) × (ahead ≡ b ∷ rest) × (nat_eq b 10 ≡ false))
 StopsAt line ahead left (Err fault.ReadFault) = Unit {0}

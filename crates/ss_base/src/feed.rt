@@ -12,8 +12,8 @@ use std::marker::Model;
 /// The last byte that a line may end with, counted from 1, its line feed among its bytes.
 const LAST: usize = 1_048_576;
 
-/// The lines of what a source gives, one after another. A line ends at a line feed; a last line may have
-/// none.
+/// The lines of what a source gives, one after another. A line ends at a line feed; a last line may
+/// have none.
 #[derive(Debug, Drop)]
 pub struct LineFeed {
     line: Vec<u8>,
@@ -56,10 +56,12 @@ impl LineFeed {
     /// source's count of faults rose in this call; what was read so far stays, and a later call goes on
     /// behind it.
     pub fn read_line<S: Source>(&mut self, source: &mut S) -> Result<Turn, LineErr>
-        ensures line { GivesLine (lines_left self.old (S.left source.old)) (lines_left self.new (S.left source.new)) self.new.line result }
+        ensures line { GivesLine (lines_left self.old (S.left source.old))
+            (lines_left self.new (S.left source.new)) self.new.line result }
         ensures progress { MovesOn self.old.used self.new.used self.new.line result }
         ensures count { S.faults source.old ≤ S.faults source.new }
-        ensures cause { IsErrOf result LineErr.ReadFault → Rose (S.faults source.old) (S.faults source.new) }
+        ensures cause { IsErrOf result LineErr.ReadFault →
+            Rose (S.faults source.old) (S.faults source.new) }
     {
         keep(&mut self.line, self.unfinished);
         self.unfinished = true;
@@ -89,7 +91,8 @@ impl LineFeed {
         }
     }
 
-    /// The last line that was read, without its line feed.
+    /// The last line that was read, without its line feed. After any other answer of `read_line` it is
+    /// the front of the next line, as far as it was read.
     pub fn line(&self) -> &[u8]
         ensures { result.now ≡ self.now.line }
     {

@@ -100,13 +100,15 @@ pub(crate) fn find<S: Source>(
     requires plain { NoFeed line.old.items }
     requires short { vec_len line.old ≤ 4096 }
     requires room { 4096 ≤ vec_capacity line.old }
-    ensures told { Refills (S.left source.old) (S.left source.new) (line.old.items ++ ahead.old) (line.new.items ++ ahead.new) }
+    ensures told { Refills (S.left source.old) (S.left source.new)
+        (line.old.items ++ ahead.old) (line.new.items ++ ahead.new) }
     ensures stop { StopsAt line.new.items ahead.new (S.left source.new) result }
     ensures plain { NoFeed line.new.items }
     ensures short { vec_len line.new ≤ 4096 }
     ensures room { 4096 ≤ vec_capacity line.new }
     ensures count { S.faults source.old ≤ S.faults source.new }
-    ensures cause { IsErrOf result LineErr.ReadFault → Rose (S.faults source.old) (S.faults source.new) }
+    ensures cause { IsErrOf result LineErr.ReadFault →
+        Rose (S.faults source.old) (S.faults source.new) }
 {
     loop {
         if ahead.fill(source).is_err() {

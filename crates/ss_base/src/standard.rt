@@ -1,31 +1,49 @@
-ghost use Rattle.std.specs.Prelude.{◌≡◌, None};
+ghost use Rattle.std.specs.Prelude.{◌≡◌, ◌<◌, ◌≤◌, length, IfOk, OnErr};
+ghost use Rattle.ss_base.specs.Streams.{Rose};
+ghost use Rattle.ss_base.specs.Ends.{counted};
 
 use crate::stream::{Sink, Source};
 use crate::types::Failed;
 use std::io::{Read, Write};
+use std::marker::Model;
 
-/// A reader as a source. It counts each failure, and tells nothing of the bytes.
+/// A reader as a source. It tells nothing of the bytes; contracts see the count of its faults.
 #[derive(Debug, Drop)]
 pub struct StdSource<R: Read> {
     inner: R,
     faults: u64,
 }
 
+impl<R: Read> Model for StdSource<R> {
+    ghost use Rattle.std.specs.Prelude.{ℕ};
+
+    ghost Value = { ℕ };
+
+    ghost view = { λ s. s.faults };
+}
+
 impl<R: Read> StdSource<R> {
     /// A source that reads from `inner`, with no fault counted. It takes no memory.
     pub fn new(inner: R) -> StdSource<R>
-        ensures { ⟦<StdSource<R> as Source>⟧.faults result ≡ 0 }
+        ensures { result ≡ 0 }
     {
         StdSource { inner, faults: 0 }
     }
 }
 
 impl<R: Read> Source for StdSource<R> {
+    ghost use Rattle.std.specs.Prelude.{None};
+
     ghost left = { λ _. None };
 
-    ghost faults = { λ s. s.faults };
+    ghost faults = { λ s. s };
 
-    fn read(&mut self, buf: &mut [u8]) -> Result<usize, Failed> {
+    fn read(&mut self, buf: &mut [u8]) -> Result<usize, Failed>
+        ensures within { IfOk result (λ n. n ≤ length buf.new) }
+        ensures counted { self.new ≡ counted self.old result }
+        ensures count { self.old ≤ self.new }
+        ensures cause { OnErr result (Rose self.old self.new) }
+    {
         match self.inner.read(buf) {
             Ok(count) => Ok(count),
             Err(_) => {
@@ -36,29 +54,45 @@ impl<R: Read> Source for StdSource<R> {
     }
 }
 
-/// A writer as a sink. It counts each failure, and tells nothing of the bytes. A writer that takes no
-/// byte of a piece that isn't empty has failed.
+/// A writer as a sink. It tells nothing of the bytes; contracts see the count of its faults. A writer
+/// that takes no byte of a piece that isn't empty has failed. Nothing is flushed here.
 #[derive(Debug, Drop)]
 pub struct StdSink<W: Write> {
     inner: W,
     faults: u64,
 }
 
+impl<W: Write> Model for StdSink<W> {
+    ghost use Rattle.std.specs.Prelude.{ℕ};
+
+    ghost Value = { ℕ };
+
+    ghost view = { λ s. s.faults };
+}
+
 impl<W: Write> StdSink<W> {
     /// A sink that writes to `inner`, with no fault counted. It takes no memory.
     pub fn new(inner: W) -> StdSink<W>
-        ensures { ⟦<StdSink<W> as Sink>⟧.faults result ≡ 0 }
+        ensures { result ≡ 0 }
     {
         StdSink { inner, faults: 0 }
     }
 }
 
 impl<W: Write> Sink for StdSink<W> {
+    ghost use Rattle.std.specs.Prelude.{None};
+
     ghost taken = { λ _. None };
 
-    ghost faults = { λ s. s.faults };
+    ghost faults = { λ s. s };
 
-    fn write(&mut self, piece: &[u8]) -> Result<usize, Failed> {
+    fn write(&mut self, piece: &[u8]) -> Result<usize, Failed>
+        ensures within { IfOk result (λ n. n ≤ length piece.now) }
+        ensures some { 0 < length piece.now → IfOk result (λ n. 0 < n) }
+        ensures counted { self.new ≡ counted self.old result }
+        ensures count { self.old ≤ self.new }
+        ensures cause { OnErr result (Rose self.old self.new) }
+    {
         match self.inner.write(piece) {
             Ok(count) if count > 0 || piece.is_empty() => Ok(count),
             _ => {
