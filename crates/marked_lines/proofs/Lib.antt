@@ -1,0 +1,4 @@
+pub mod Graphs
+pub mod Images
+pub mod Shifts
+pub mod Zips
