@@ -1,4 +1,5 @@
 pub mod Graphs
 pub mod Images
+pub mod Positions
 pub mod Shifts
 pub mod Zips

@@ -1,6 +1,7 @@
 -- A list of lines by their marks: `true` for a line that is hidden for good. A position counts all lines from 0, a
 -- visible index only the visible ones.
-use Rattle.std.specs.Prelude.{ℕ, suc, ◌-◌, nat_lt, Bool, true, false, if◌then◌else◌, List, [], ◌∷◌, take, Option, Some, None, slice_get, slice_index_or}
+use Rattle.std.specs.Prelude.{ℕ, suc, ◌-◌, ◌≤◌, ◌≡◌, length, nat_lt, Bool, true, false, if◌then◌else◌, List, [], ◌∷◌, ◌++◌, ◌+◌, map, drop, take, Option, Some, None, slice_get, slice_index_or}
+use Rattle.marked_lines.specs.declared.lines.TheConstants.{MOST_LINES}
 
 -- how many lines are visible
 abbrev pub visible_count : List Bool → ℕ
@@ -35,3 +36,12 @@ span_of marks first last =
     if nat_lt (visible_before marks first) (visible_before marks (suc last))
     then Some (visible_before marks first, visible_before marks (suc last) - 1)
     else None
+
+-- what is kept of a list of lines: its marks, not too many, and beside them the positions of the visible lines
+pub record IsIndexed (marks : List Bool) (places : List ℕ) : Type 0 where
+  pub short : length marks ≤ MOST_LINES
+  pub visible : places ≡ visible_places marks
+
+-- ascending places after a new one went in at an index and those behind it moved one further
+abbrev pub raised : List ℕ → ℕ → ℕ → List ℕ
+raised places v p = take v places ++ p ∷ map (λ q. q + 1) (drop v places)

@@ -1,6 +1,9 @@
 //! Lines of one axis of a sheet, some of which are hidden for good, and permutations of their positions.
 #![tactic(auto)]
 
+mod lines;
 mod perm;
+mod places;
 
+pub use lines::{Lines, MOST_LINES};
 pub use perm::Perm;
