@@ -1,7 +1,7 @@
 ghost use Rattle.std.specs.Prelude.{◌≡◌, ℕ, ◌+◌, ◌-◌, ◌<◌, ◌≤◌, ◌↔◌, true, false, length, replicate, insert, IfOk, OnOk, OnErr, IsNone, slice_get, slice_set};
 
 use crate::perm::Perm;
-use crate::places::{insert_place, places_of};
+use crate::places::{insert_place, permuted, places_of};
 use ss_base::Memory;
 use std::alloc::Global;
 use std::marker::Model;
@@ -95,6 +95,20 @@ impl Lines {
             Ok(()) => Ok(()),
             Err(_) => unreachable!(),
         }
+    }
+
+    /// Each line goes with its mark from its position to the image of that position, in the time
+    /// of copying the list and of making its index anew.
+    pub fn permute(&mut self, perm: &Perm) -> Result<(), Memory>
+        requires { MovesBelow (length self.old) perm.now }
+        ensures ok { OnOk result (self.new ≡ permute perm.now self.old) }
+        ensures err { OnErr result (self.new ≡ self.old) }
+    {
+        let marks = permuted(&self.marks, perm)?;
+        let places = places_of(*self.marks.allocator(), &marks)?;
+        self.marks = marks;
+        self.places = places;
+        Ok(())
     }
 
     /// The position of the visible line with this visible index, `None` exactly at the number of

@@ -74,6 +74,14 @@ impl Perm {
         self.moves.get(i).copied()
     }
 
+    // The moved positions, ascending, each with its image.
+    pub(crate) fn moves(&self) -> &[(u32, u32)]
+        ensures value { result.now ≡ self.now }
+        ensures bijective { IsPerm self.now }
+    {
+        &self.moves
+    }
+
     /// This permutation and then the next one, in the time of sorting the moved positions of both.
     pub fn then(&self, next: &Perm) -> Result<Perm, Memory>
         ensures bijective { IfOk result IsPerm }

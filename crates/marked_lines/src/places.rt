@@ -1,6 +1,8 @@
 ghost use Rattle.std.specs.Prelude.{◌≡◌, ℕ, ◌+◌, ◌-◌, ◌^◌, ◌<◌, ◌≤◌, ◌++◌, take, drop, length, map, All, IfOk, OnOk, OnErr, vec_len};
 ghost use Rattle.marked_lines.specs.Marks.{visible_places, raised};
+ghost use Rattle.marked_lines.specs.Moves.{permute, MovesBelow};
 
+use crate::perm::Perm;
 use std::alloc::{AllocError, Global};
 
 // The positions of the visible lines.
@@ -15,6 +17,18 @@ pub fn places_of(alloc: Global, marks: &[bool]) -> Result<Vec<u32>, AllocError>
         }
     }
     Ok(places)
+}
+
+// The marks after each line went to the image of its position.
+pub fn permuted(marks: &Vec<bool>, perm: &Perm) -> Result<Vec<bool>, AllocError>
+    requires { MovesBelow (length marks.now.items) perm.now }
+    ensures { IfOk result (λ v. v.items ≡ permute perm.now marks.now.items) }
+{
+    let mut after = Vec::from_slice(*marks.allocator(), marks)?;
+    for &(from, to) in perm.moves() {
+        after[to as usize] = marks[from as usize];
+    }
+    Ok(after)
 }
 
 // Puts a place in at an index, and moves each one behind it one further.
