@@ -1,8 +1,10 @@
 -- A list after each element went to the image of its position.
-use Rattle.std.proofs.Common.{◌≡◌, ℕ, zero, suc, ◌+◌, ◌<◌, ◌≢◌, ◌⊎◌, inl, inr, Bool, true, false, cond, nat_eq, List, [], ◌∷◌, ◌++◌, map, take, length, get_or, set, refl, ap, sym, ◌∙◌, arith, All, AllPairs}
+use Rattle.std.proofs.Common.{◌≡◌, ℕ, zero, suc, ◌+◌, ◌<◌, ◌≤◌, ◌≢◌, ◌⊎◌, inl, inr, Bool, true, false, cond, nat_eq, List, [], ◌∷◌, ◌++◌, map, take, length, get_or, set, slice_get, Some, None, refl, ap, sym, ◌∙◌, arith, All, AllPairs}
 use Rattle.std.proofs.lemmas.List.{take_more, map_push, get_or_default, same_lists, get_or-set_same, get_or-set_other, get_or-take, length-take-le}
 use Rattle.std.proofs.lemmas.List.Elements.{All-head, All-tail, All-map}
 use Rattle.std.proofs.lemmas.Bool.{cases_eq}
+use Rattle.std.proofs.lemmas.Option.{slice_get-get_or, slice_get_cases}
+use Rattle.marked_lines.proofs.Shifts.{images_below}
 use Rattle.marked_lines.specs.Moves.{image, turned, source, IsPerm, MovesBelow, permute, permuted_from}
 use Rattle.marked_lines.proofs.Images.{image_here, image_there, image_at, IsDistinctByFirst-from_ascending}
 
@@ -60,6 +62,9 @@ image_below (m ∷ moves) n p below within = by_test (nat_eq m.0 p) (All-head (�
     by_test true here rest = here
     by_test false here rest = rest
 
+pub image_inside : (moves : List (ℕ × ℕ)) → IsPerm moves → (n p : ℕ) → MovesBelow n moves → p < n → image moves p < n
+image_inside moves perm n p below within = image_below moves n p (λ k d lt. (images_below moves perm n below k d lt).1) within
+
 pub source_below : (moves : List (ℕ × ℕ)) (n q : ℕ) → MovesBelow n moves → q < n → source moves q < n
 source_below moves n q below within = image_below (map turned moves) n q (All-map (λ m. m.1 < n) turned moves below) within
 
@@ -85,3 +90,16 @@ pub permute_from_places : (moves : List (ℕ × ℕ)) (xs ys : List Bool) → Mo
 permute_from_places moves xs ys below same placed = same_lists ys (permute moves xs) (same ∙ sym (length-permuted_from moves xs 0 xs)) (λ k d within.
     let inside : k < length xs = omega (arith, within, same) in
     get_or_default ys k d false within ∙ placed k ∙ sym (get_or-permute moves xs k false below inside) ∙ get_or_default (permute moves xs) k false d (omega (arith, inside, length-permuted_from moves xs 0 xs)))
+
+-- the element at a position goes to its image
+pub slice_get-permute : {A : Type 0} (moves : List (ℕ × ℕ)) → IsPerm moves → (xs : List A) → MovesBelow (length xs) moves → (p : ℕ) → p < length xs → slice_get (permute moves xs) (image moves p) ≡ slice_get xs p
+slice_get-permute {A} moves perm xs below p within = by_element (slice_get_cases xs p).1
+  where
+    inside : image moves p < length xs
+    inside = image_inside moves perm (length xs) p below within
+
+    by_element : ((x : A) × (p < length xs) × (slice_get xs p ≡ Some x) × (get_or xs p x ≡ x)) ⊎ ((length xs ≤ p) × (slice_get xs p ≡ None)) → slice_get (permute moves xs) (image moves p) ≡ slice_get xs p
+    by_element (inl (x, lt, is, at)) =
+        slice_get-get_or (permute moves xs) (image moves p) x (omega (arith, inside, length-permuted_from moves xs 0 xs))
+        ∙ ap Some (get_or-permute moves xs (image moves p) x below inside ∙ ap (λ i. get_or xs i x) (perm.back p) ∙ at) ∙ sym is
+    by_element (inr (past, none)) = absurd (omega (arith, past, within))

@@ -126,7 +126,7 @@ visible_before-hidden (false ∷ marks) zero hidden = absurd (cc)
 visible_before-hidden (true ∷ marks) (suc p) hidden = visible_before-hidden marks p hidden
 visible_before-hidden (false ∷ marks) (suc p) hidden = ap suc (visible_before-hidden marks p hidden)
 
-visible_before-shown : (marks : List Bool) (p : ℕ) → slice_get marks p ≡ Some false → visible_before marks (suc p) ≡ suc (visible_before marks p)
+pub visible_before-shown : (marks : List Bool) (p : ℕ) → slice_get marks p ≡ Some false → visible_before marks (suc p) ≡ suc (visible_before marks p)
 visible_before-shown [] p shown = absurd (cc)
 visible_before-shown (true ∷ marks) zero shown = absurd (cc)
 visible_before-shown (false ∷ marks) zero shown = refl
@@ -142,6 +142,13 @@ visible_before-le (m ∷ marks) zero q le = omega arith
 visible_before-le (m ∷ marks) (suc p) zero le = absurd (omega arith)
 visible_before-le (true ∷ marks) (suc p) (suc q) le = visible_before-le marks p q (omega arith)
 visible_before-le (false ∷ marks) (suc p) (suc q) le = omega (arith, visible_before-le marks p q (omega arith))
+
+pub visible_before-all : (marks : List Bool) (p : ℕ) → visible_before marks p ≤ visible_count marks
+visible_before-all [] zero = omega arith
+visible_before-all [] (suc p) = omega arith
+visible_before-all (m ∷ marks) zero = omega arith
+visible_before-all (true ∷ marks) (suc p) = visible_before-all marks p
+visible_before-all (false ∷ marks) (suc p) = omega (arith, visible_before-all marks p)
 
 mark_cases : (marks : List Bool) (p : ℕ) → p < length marks → (slice_get marks p ≡ Some true) ⊎ (slice_get marks p ≡ Some false)
 mark_cases [] p within = absurd (omega arith)

@@ -28,6 +28,10 @@ pub record IsPerm (moves : List (ℕ × ℕ)) : Type 0 where
 abbrev pub moves_of : (ℕ → ℕ) → List ℕ → List (ℕ × ℕ)
 moves_of f positions = filter (λ m. not (nat_eq m.0 m.1)) (map (λ p. (p, f p)) positions)
 
+-- a map moves none but these positions
+abbrev pub IsUnmovedOutside : (ℕ → ℕ) → List ℕ → Type 0
+IsUnmovedOutside f positions = (p : ℕ) → All (λ q. q ≢ p) positions → f p ≡ p
+
 -- where position p is after an insertion at q
 abbrev pub after_insertion : ℕ → ℕ → ℕ
 after_insertion q p = if nat_lt p q then p else p + 1

@@ -1,6 +1,7 @@
 //! Lines of one axis of a sheet, some of which are hidden for good, and permutations of their positions.
 #![tactic(auto)]
 
+pub mod laws;
 mod lines;
 mod perm;
 mod places;

@@ -1,4 +1,4 @@
-ghost use Rattle.std.specs.Prelude.{◌≡◌, ℕ, ◌+◌, ◌-◌, ◌<◌, ◌≤◌, ◌↔◌, true, false, length, replicate, insert, IfOk, OnOk, OnErr, IsNone, slice_get, slice_set};
+ghost use Rattle.std.specs.Prelude.{◌≡◌, ℕ, ◌+◌, ◌-◌, ◌<◌, ◌≤◌, ◌↔◌, true, false, length, replicate, insert, IfOk, OnOk, OnErr, IsNone, IfSome, slice_get, slice_set};
 
 use crate::perm::Perm;
 use crate::places::{insert_place, permuted, places_of};
@@ -116,6 +116,7 @@ impl Lines {
     pub fn place_of(&self, visible: u32) -> Option<u32>
         ensures value { result ≡ place_of self.now visible }
         ensures none { IsNone result ↔ (visible_count self.now ≤ visible) }
+        ensures index { IfSome result (λ p. visible_of self.now p ≡ Some visible) }
     {
         self.places.get(visible as usize).copied()
     }
@@ -126,6 +127,7 @@ impl Lines {
         requires { p < length self.now }
         ensures value { result ≡ visible_of self.now p }
         ensures none { IsNone result ↔ (slice_get self.now p ≡ Some true) }
+        ensures place { IfSome result (λ v. place_of self.now v ≡ Some p) }
     {
         if self.marks[p as usize] {
             None
@@ -142,6 +144,10 @@ impl Lines {
         requires place { last < length self.now }
         ensures value { result ≡ span_of self.now first last }
         ensures none { IsNone result ↔ ((p : ℕ) → first ≤ p → p ≤ last → slice_get self.now p ≡ Some true) }
+        ensures order { IfSome result (λ s. (s.0 ≤ s.1) × (s.1 < visible_count self.now)) }
+        // A visible line is between the positions exactly where its index is between those of the span.
+        ensures between { (v p : ℕ) → place_of self.now v ≡ Some p →
+            IfSome result (λ s. ((first ≤ p) × (p ≤ last)) ↔ ((s.0 ≤ v) × (v ≤ s.1))) }
     {
         let before = self.visible_before(first as usize);
         let through = self.visible_before(last as usize + 1);
