@@ -85,10 +85,11 @@ module _ (f : ℕ → ℕ) where
 
   moves_of-ascends : (positions : List ℕ) → AllPairs (λ p q. p < q) positions → AllPairs (λ m n. m.0 < n.0) (moves_of f positions)
   moves_of-ascends positions up =
-      let pairs : AllPairs (λ m n. m.0 < n.0) (map (λ p. (p, f p)) positions) = λ (i j : ℕ) (d : ℕ × ℕ) lt within.
+      let pairs : AllPairs (λ m n. m.0 < n.0) (map (λ p. (p, f p)) positions) = λ (i j : ℕ) (d : ℕ × ℕ) (lt : i < j) (within : j < length (map (λ (p : ℕ). (p, f p)) positions)).
       let inside : j < length positions = rw length-map at within in
-      let first = get_or-map (λ p. (p, f p)) positions i 0 d (omega arith) in
-      let second = get_or-map (λ p. (p, f p)) positions j 0 d inside in
+      let earlier : i < length positions = omega (arith, lt, inside) in
+      let first = get_or-map (λ (p : ℕ). (p, f p)) positions i 0 d earlier in
+      let second = get_or-map (λ (p : ℕ). (p, f p)) positions j 0 d inside in
       rw (first, second) (up i j 0 lt inside) in
       AllPairs-filter (λ m n. m.0 < n.0) (λ m. not (nat_eq m.0 m.1)) (map (λ p. (p, f p)) positions) pairs
 

@@ -178,3 +178,11 @@ pub between_hidden : (marks : List Bool) (first last : ℕ) → first ≤ last �
 between_hidden marks first last order hidden =
     let e : suc last ≡ first + (suc last - first) = omega arith in
     ap (visible_before marks) e ∙ run_hidden marks first (suc last - first) (λ p low high. hidden p low (omega arith))
+
+get_or-shown : (marks : List Bool) (p : ℕ) → slice_get marks p ≡ Some false → (p < length marks) × (get_or marks p false ≡ false)
+get_or-shown [] p shown = absurd (cc)
+get_or-shown (m ∷ marks) zero shown = (omega arith, cc)
+get_or-shown (m ∷ marks) (suc p) shown = let h = get_or-shown marks p shown in (omega (arith, h.0), h.1)
+
+pub visible_places-mark : (marks : List Bool) (p : ℕ) → slice_get marks p ≡ Some false → visible_places (set marks p true) ≡ remove (visible_places marks) (visible_before marks p)
+visible_places-mark marks p shown = let h = get_or-shown marks p shown in places_from-mark 0 marks p h.0 h.1

@@ -1,8 +1,8 @@
 //! Laws of the definitions that the contracts cite, stated as clauses for the crates above. The
 //! calls do nothing.
 
-ghost use Rattle.std.specs.Prelude.{◌≡◌, ℕ, ◌<◌, ◌≤◌, ◌↔◌, Bool, true, List, length, AllPairs, IfSome, IsNone, slice_get};
-ghost use Rattle.marked_lines.specs.Marks.{visible_count, place_of, visible_of, span_of};
+ghost use Rattle.std.specs.Prelude.{◌≡◌, ℕ, ◌<◌, ◌≤◌, ◌↔◌, Bool, true, false, List, length, AllPairs, IfSome, IsNone, slice_get, slice_set, insert, remove};
+ghost use Rattle.marked_lines.specs.Marks.{visible_count, visible_before, visible_places, raised, place_of, visible_of, span_of};
 ghost use Rattle.marked_lines.specs.Moves.{image, source, IsPerm, moves_of, permute, MovesBelow, IsUnmovedOutside};
 
 /// A permutation is a bijection of the positions: images are equal only for equal positions, and
@@ -53,4 +53,13 @@ pub fn spans()
         IfSome (span_of marks first last) (λ s. ((first ≤ p) × (p ≤ last)) ↔ ((s.0 ≤ v) × (v ≤ s.1))) }
     ensures none { (marks : List Bool) (first last : ℕ) → first ≤ last → last < length marks →
         IsNone (span_of marks first last) ↔ ((p : ℕ) → first ≤ p → p ≤ last → slice_get marks p ≡ Some true) }
+{}
+
+/// An insertion adds the new line's position to those of the visible lines and moves the ones behind
+/// it one further. Hiding a visible line takes its position out.
+pub fn edits()
+    ensures insert { (marks : List Bool) (p : ℕ) → p ≤ length marks →
+        visible_places (insert marks p false) ≡ raised (visible_places marks) (visible_before marks p) p }
+    ensures mark { (marks : List Bool) (p : ℕ) → slice_get marks p ≡ Some false →
+        visible_places (slice_set marks p true) ≡ remove (visible_places marks) (visible_before marks p) }
 {}

@@ -8,3 +8,6 @@ mod places;
 
 pub use lines::{Lines, MOST_LINES};
 pub use perm::Perm;
+
+#[cfg(test)]
+mod tests;
