@@ -1,8 +1,7 @@
 -- A permutation of positions that moves finitely many of them: the moved positions, ascending, each with its image.
 -- Every other position is its own image.
-use Rattle.std.specs.Prelude.{ℕ, suc, ◌+◌, ◌<◌, ◌≡◌, ◌≢◌, nat_eq, nat_lt, if◌then◌else◌, List, [], ◌∷◌, map, All, AllPairs, slice_index_or}
+use Rattle.std.specs.Prelude.{ℕ, suc, ◌+◌, ◌<◌, ◌≡◌, ◌≢◌, nat_eq, nat_lt, not, if◌then◌else◌, List, [], ◌∷◌, map, All, AllPairs, slice_index_or}
 use Rattle.std.specs.List.{filter}
-use Rattle.std.specs.Prelude.{not}
 
 -- where what stands at position p goes
 abbrev pub image : List (ℕ × ℕ) → ℕ → ℕ

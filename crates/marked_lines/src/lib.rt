@@ -1,4 +1,5 @@
-//! Lines of one axis of a sheet, some of which are hidden for good, and permutations of their positions.
+//! Lines of one axis of a sheet, some of which are hidden for good, and permutations of their
+//! positions.
 #![tactic(auto)]
 
 pub mod laws;

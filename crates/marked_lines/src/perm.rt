@@ -40,8 +40,8 @@ impl Perm {
         }
     }
 
-    /// The permutation that sends each number of `from` to the one at the same place in `to`, in
-    /// the time of sorting them.
+    /// The permutation that sends each number of `from` to the one at the same place in `to`. Both
+    /// lists hold the same numbers, each once. It takes the time of sorting them.
     pub fn from_lists(alloc: Global, from: &[u32], to: &[u32]) -> Result<Perm, Memory>
         requires from_once { AllPairs (λ p q. p ≢ q) from.now }
         requires to_once { AllPairs (λ p q. p ≢ q) to.now }
@@ -111,8 +111,8 @@ impl Perm {
         Ok(Perm { moves })
     }
 
-    /// The permutation after an insertion at `p`: the new line stays in its place, and each line
-    /// behind it is moved as before. It takes the time of copying.
+    /// The permutation after an insertion at `p`: the new line stays in its place, and each other
+    /// line is moved as before. Every moved position is below 2^32 - 1. It takes the time of copying.
     pub fn shift(&self, p: u32) -> Result<Perm, Memory>
         requires { MovesBelow (2 ^ 32 - 1) self.now }
         ensures bijective { IfOk result IsPerm }
@@ -169,7 +169,8 @@ fn place_after(inserted: u32, p: u32) -> u32
     if p < inserted { p } else { p + 1 }
 }
 
-// The permutation that sends each position as the first pair that begins with it says.
+// The permutation that sends each position as the first pair that begins with it says. Pairs are
+// taken from the last, so that an earlier one overrides a later one.
 fn settled(alloc: Global, mut pairs: Vec<(u32, u32)>) -> Result<Perm, Memory>
     requires bijective { (back : ℕ → ℕ) × ((p : ℕ) → back (image pairs.items p) ≡ p) × ((q : ℕ) → image pairs.items (back q) ≡ q) }
     ensures { IfOk result (λ r. IsPerm r × ((p : ℕ) → image r p ≡ image pairs.items p)) }

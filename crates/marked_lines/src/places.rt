@@ -54,6 +54,7 @@ fn raise_from(places: &mut [u32], from: usize)
     raise(later);
 }
 
+// Each place is one further.
 fn raise(places: &mut [u32])
     requires { All (λ p. p < 2 ^ 32 - 1) places.old }
     ensures { places.new ≡ map (λ p. p + 1) places.old }

@@ -1,4 +1,4 @@
-use Rattle.std.proofs.Common.{◌≡◌, ◌<◌, ◌≤◌, ℕ, [], ◌∷◌, arith, All}
+use Rattle.std.proofs.Common.{◌<◌, [], ◌∷◌, arith, All}
 use Rattle.std.proofs.lemmas.List.Elements.{All-contains, All-from_recursion}
 use Rattle.marked_lines.proofs.Canonical.{stay_below}
 use Rattle.marked_lines.proofs.tests.five.Goals as goal
