@@ -334,6 +334,10 @@ module _ (cols : ℕ) (rows : List (BTreeMap ℕ Content)) (sheet : PlacedSheet)
       let low = in_cols c h.1 in
       (h.0, omega (arith, count), λ e. filled (held r c) h.1 (λ g. tidy.no_empty row c (sym (held_here c) ∙ g)) (sym (read_here c low) ∙ e))
 
+  pub next_few : (found : Option ℕ) → IfSome found (λ c. (from ≤ c) × IsSome (held r c)) → IfSome found (λ c. c < 16000)
+  next_few None h = h
+  next_few (Some c) h = let low = in_cols c h.1 in let most = tidy.few_cols in omega (arith, low, most)
+
   pub next_first : (found : Option ℕ) → IfSome found (λ c. (from ≤ c) × IsSome (held r c)) → IfSome found (λ c. (k : ℕ) → from ≤ k → k < c → held r k ≡ None) →
       IfSome found (λ c. (k : ℕ) → from ≤ k → k < c → cell_at sheet row k ≡ content.Empty)
   next_first None some h = h
