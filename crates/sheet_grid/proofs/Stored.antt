@@ -13,10 +13,10 @@ use Rattle.sheet_ops.specs.Fits.{PutsFit, EffectFits}
 use Rattle.sheet_ops.specs.declared.content.Content.{Content}
 use Rattle.sheet_ops.specs.declared.content.Content.TheVariants as content
 use Rattle.sheet_ops.specs.declared.content.Put.{Put}
-use Rattle.sheet_ops.specs.Effects.{cell_written, cells_written, effect_on, Steps}
+use Rattle.sheet_ops.specs.Effects.{cells_written, effect_on, Steps}
 use Rattle.sheet_ops.proofs.Written.{placed-step}
 use Rattle.std.proofs.lemmas.List.{length-map}
-use Rattle.sheet_ops.proofs.Ids.{same_number, number_self, true_or_false}
+use Rattle.sheet_ops.proofs.Ids.{same_number, number_self}
 use Rattle.sheet_grid.specs.Rows.{held, no_cells, with_cell, settled, contents_from, grid, cell_held, IsWithin, AddsNoEmpty, IsTidy, AreInRows, AreInCols, sheet_of, written_by}
 use Rattle.std.proofs.lemmas.Bool.Decides.{nat_tests}
 
@@ -210,8 +210,8 @@ module _ (rows : List (BTreeMap ℕ Content)) (p : Put) (what : Content) (d row 
       pub key_there : IsSome (held (slice_index_or after p.row e) p.col)
       key_there =
           let is : held (slice_index_or after p.row e) p.col ≡ Some what =
-              here ∙ (ap (λ (rs : List (ℕ → Option Content)). cell_held rs p.row p.col) (refused ∙ stored_first)
-              ∙ cell_set-here p.col (Some what) (map held rows) p.row (let l = length-held rows in omega (arith, l))) in
+          here ∙ (ap (λ (rs : List (ℕ → Option Content)). cell_held rs p.row p.col) (refused ∙ stored_first)
+          ∙ cell_set-here p.col (Some what) (map held rows) p.row (let l = length-held rows in omega (arith, l))) in
           rw is refl
 
       pub all_back : (old : Option Content) → old ≡ held (slice_index_or rows p.row d) p.col → held last ≡ with_cell (held (slice_index_or after p.row e)) p.col old → map held (slice_set after p.row last) ≡ map held rows

@@ -1,4 +1,4 @@
-use Rattle.std.proofs.Common.{◌≡◌, ℕ, ◌∙◌, ap, sym, arith}
+use Rattle.std.proofs.Common.{ℕ, ◌∙◌, ap, sym, arith}
 use Rattle.std.specs.Prelude.{unwrap_or}
 use Rattle.std.specs.BTreeMap.{BTreeMap}
 use Rattle.sheet_ops.specs.declared.content.Content.{Content}
