@@ -32,7 +32,7 @@ pub enum Kind {
 
 /// A sheet, which contracts see by positions: per row and per column whether it is marked, and the
 /// contents row by row. It keeps a map for each row, in which an empty cell has no key.
-#[derive(Drop)]
+#[derive(Debug, Drop)]
 pub struct Sheet {
     rows: Vec<BTreeMap<u32, Content>>,
     cols: u32,
