@@ -1,4 +1,4 @@
-use Rattle.sheet_grid.proofs.Stored.{next_within, next_few, next_first, next_none}
+use Rattle.sheet_grid.proofs.Read.{next_within, next_few, next_first, next_none}
 use Rattle.sheet_grid.proofs.Sheet.next_in_row.Goals as goal
 
 pub returns-clause-within : goal.returns-clause-within
