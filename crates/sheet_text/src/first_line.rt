@@ -44,11 +44,12 @@ pub fn refusal(alloc: Global, line: u32, cause: EditErr) -> Result<Txt, Memory>
 
 /// Why an edit was refused, in a word.
 fn word(cause: EditErr) -> &'static str
+    requires { cause ≢ fault.Memory }
     ensures { result.now ≡ cause_text cause }
 {
     match cause {
         EditErr::OutOfSheet => "outside",
         EditErr::Spent => "spent",
-        EditErr::Memory => "",
+        EditErr::Memory => unreachable!(),
     }
 }
