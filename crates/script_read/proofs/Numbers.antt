@@ -1,5 +1,5 @@
 -- digits and the limit of their number
-use Rattle.std.proofs.Common.{◌≡◌, ℕ, true, false, IsTrue, ◌+◌, ◌-◌, ◌*◌, ◌≤◌, ◌<◌, List, length, take, get_or, arith}
+use Rattle.std.proofs.Common.{◌≡◌, ℕ, true, ◌+◌, ◌-◌, ◌*◌, ◌≤◌, ◌<◌, List, length, take, get_or, arith}
 use Rattle.std.specs.Char.{is_ascii_digit}
 use Rattle.std.specs.List.{list_all}
 use Rattle.std.specs.Str.Parse.{digits_value}
@@ -9,9 +9,5 @@ pub by_not : {m n : ℕ} → (m ≤ n → ⊥) → n < m
 by_not h = omega (arith, h)
 
 -- a number above the limit, which its first digits show
-above_limit : (d limit : ℕ) → (d ≤ limit → ⊥) → (IsTrue false → d ≤ limit) × (d ≤ limit → IsTrue false)
-above_limit d limit h = (λ e. absurd (cc), λ k. absurd (h k))
-
-pub above : (ds : List ℕ) (i limit : ℕ) → list_all is_ascii_digit ds ≡ true → i < length ds → limit < digits_value 10 (take i ds) * 10 + (get_or ds i 0 - 48) →
-    (IsTrue false → digits_value 10 ds ≤ limit) × (digits_value 10 ds ≤ limit → IsTrue false)
-above ds i limit digits within over = above_limit (digits_value 10 ds) limit (λ k. omega (arith, front_below ds i digits within))
+pub above : (ds : List ℕ) (i limit : ℕ) → list_all is_ascii_digit ds ≡ true → i < length ds → limit < digits_value 10 (take i ds) * 10 + (get_or ds i 0 - 48) → digits_value 10 ds ≤ limit → ⊥
+above ds i limit digits within over h = absurd (omega (arith, front_below ds i digits within))
