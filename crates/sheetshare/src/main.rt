@@ -2,6 +2,8 @@
 #![tactic(auto)]
 
 mod author;
+mod desk;
+mod play;
 mod replica;
 mod run;
 
