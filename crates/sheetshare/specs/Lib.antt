@@ -4,3 +4,4 @@ pub mod Transcript
 pub mod Runs
 pub mod Desks
 pub mod Played
+pub mod Exits
