@@ -1,11 +1,13 @@
 -- Which trees are formulas.
-use Rattle.std.specs.Prelude.{ℕ, ℤ, pos, negsuc, ◌≡◌, ◌≢◌, ◌<◌, ◌≤◌, ◌^◌, ◌⊎◌, List, [], ◌∷◌, length, true, All}
+use Rattle.std.specs.Prelude.{ℕ, ℤ, pos, negsuc, ◌≡◌, ◌≢◌, ◌<◌, ◌≤◌, ◌^◌, true}
+use Rattle.std.specs.List.{list_all}
 use Rattle.ss_base.specs.declared.types.Spot.{Spot}
 use Rattle.ss_base.specs.declared.types.Span.{Span}
 use Rattle.formula_tree.specs.declared.functions.Fun.{Fun}
 use Rattle.formula_tree.specs.declared.functions.Fun.TheVariants.{Unknown}
 use Rattle.formula_tree.specs.Tree.{Tree, Trees, num, text, fault, cell, range, pre, bin, call, none, more}
 use Rattle.formula_tree.specs.Names.{name_of, is_known}
+use Rattle.formula_tree.specs.Tokens.{is_printable, is_name, upper_case}
 use Rattle.formula_tree.specs.Measures.{print_nesting, node_count}
 
 -- a number that a numeral can spell
@@ -13,28 +15,9 @@ abbrev pub IsNumber : ℤ → Type 0
 IsNumber (pos n) = n < 2 ^ 63
 IsNumber (negsuc n) = ⊥
 
--- a byte that a formula's text may have
-abbrev pub IsPrintable : ℕ → Type 0
-IsPrintable b = (32 ≤ b) × (b ≤ 126)
-
-abbrev pub IsUpper : ℕ → Type 0
-IsUpper b = (65 ≤ b) × (b ≤ 90)
-
-abbrev pub IsDigit : ℕ → Type 0
-IsDigit b = (48 ≤ b) × (b ≤ 57)
-
--- an upper-case letter, a digit, `.` or `_`
-abbrev pub IsNameByte : ℕ → Type 0
-IsNameByte b = IsUpper b ⊎ (IsDigit b ⊎ ((b ≡ 46) ⊎ (b ≡ 95)))
-
--- an upper-case letter, then up to 31 bytes
-abbrev pub IsName : List ℕ → Type 0
-IsName [] = ⊥
-IsName (b ∷ bs) = IsUpper b × (length bs ≤ 31) × All IsNameByte bs
-
--- a function that has a meaning, or a name that none of those has
+-- a function that has a meaning, or a name in upper case that none of those has
 abbrev pub IsFun : Fun → Type 0
-IsFun (Unknown name) = IsName name × ((fun : Fun) → is_known fun ≡ true → name_of fun ≢ name)
+IsFun (Unknown name) = (is_name name ≡ true) × (upper_case name ≡ name) × ((fun : Fun) → is_known fun ≡ true → name_of fun ≢ name)
 IsFun fun = Unit {0}
 
 -- a row and a column that an address can spell
@@ -54,7 +37,7 @@ pub record IsRange (r : Span) : Type 0 where
 abbrev mutual
   pub IsWellFormed : Tree Spot Span → Type 0
   IsWellFormed (num n) = IsNumber n
-  IsWellFormed (text t) = All IsPrintable t
+  IsWellFormed (text t) = list_all is_printable t ≡ true
   IsWellFormed (fault e) = Unit {0}
   IsWellFormed (cell c) = IsCell c
   IsWellFormed (range r) = IsRange r

@@ -9,6 +9,8 @@ mod functions;
 mod measures;
 mod operators;
 mod renaming;
+#[cfg(test)]
+mod tests;
 
 pub use expression::Expr;
 pub use formulas::{Formula, rename};
