@@ -1,0 +1,11 @@
+pub mod Tests
+pub mod Stepping
+pub mod Corners
+pub mod Addresses
+pub mod Words
+pub mod States
+pub mod Forms
+pub mod Splits
+pub mod Next
+pub mod Cuts
+pub mod Walk

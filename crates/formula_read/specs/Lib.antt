@@ -1,0 +1,3 @@
+pub mod Partial
+pub mod Longest
+pub mod Read
