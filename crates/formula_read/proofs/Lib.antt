@@ -9,3 +9,4 @@ pub mod Splits
 pub mod Next
 pub mod Cuts
 pub mod Walk
+pub mod Syntax

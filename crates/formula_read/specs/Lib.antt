@@ -1,3 +1,4 @@
 pub mod Partial
 pub mod Longest
 pub mod Read
+pub mod Places

@@ -3,8 +3,12 @@
 #![tactic(auto)]
 
 mod kinds;
+mod laws;
 mod lexer;
 mod partial;
+#[cfg(test)]
+mod tests;
 
 pub use kinds::{ParseErr, Token, TokenKind};
+pub use laws::token_fronts;
 pub use lexer::tokens;
