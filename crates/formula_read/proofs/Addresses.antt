@@ -15,7 +15,7 @@ use Rattle.cell_addr.specs.Cells.{has_dollar, past_dollar, past_letters, spot_of
 use Rattle.formula_read.specs.declared.partial.Corner.{Corner}
 use Rattle.formula_read.specs.declared.partial.Corner.TheVariants.{Start, Dollar, Letters, Fixed, Digits}
 use Rattle.formula_read.specs.Partial.{corner_step}
-use Rattle.formula_read.proofs.Tests.{on_test, nothing, same_number, all_parts, letter_is_no_dollar, first_is_no_letter, first_is_no_dollar}
+use Rattle.formula_read.proofs.Choices.{on_test, nothing, same_number, all_parts, letter_is_no_dollar, first_is_no_letter, first_is_no_dollar}
 use Rattle.formula_read.proofs.Corners.{IsColumn, CornerHolds, count_parts}
 
 -- where a front of elements that pass ends

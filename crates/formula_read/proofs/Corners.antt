@@ -12,7 +12,7 @@ use Rattle.cell_addr.specs.Cells.{dollar}
 use Rattle.formula_read.specs.declared.partial.Corner.{Corner}
 use Rattle.formula_read.specs.declared.partial.Corner.TheVariants.{Start, Dollar, Letters, Fixed, Digits}
 use Rattle.formula_read.specs.Partial.{corner_step, first_digit}
-use Rattle.formula_read.proofs.Tests.{on_test, nothing, same, same_number, first_is_digit}
+use Rattle.formula_read.proofs.Choices.{on_test, nothing, same, same_number, first_is_digit}
 
 -- 1 to 3 letters
 pub record IsColumn (n : ℕ) (ls : List ℕ) : Type 0 where

@@ -14,7 +14,7 @@ use Rattle.formula_read.specs.declared.partial.Address.TheVariants.{Neither, Cel
 use Rattle.formula_read.specs.declared.partial.Corner.TheVariants.{Start, Dollar, Letters, Fixed, Digits}
 use Rattle.formula_read.specs.Partial.{begun, word, name_step, address_step}
 use Rattle.formula_read.specs.Longest.{run, longest, fronts}
-use Rattle.formula_read.proofs.Tests.{same_number}
+use Rattle.formula_read.proofs.Choices.{same_number}
 use Rattle.formula_read.proofs.Forms.{run-append, fresh_holds, completes}
 use Rattle.formula_read.proofs.Words.{run_name}
 use Rattle.formula_read.proofs.Splits.{shorter_front, same_front, some_left}

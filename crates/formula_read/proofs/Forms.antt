@@ -24,7 +24,7 @@ use Rattle.formula_read.specs.declared.partial.Corner.TheVariants.{Start, Dollar
 use Rattle.formula_read.specs.Partial.{step, begun, numeral_step, quoted_step, address_kind, is_open, kind_at}
 use Rattle.formula_read.specs.Longest.{run, first_byte}
 use Rattle.formula_read.specs.Read.{kind_of}
-use Rattle.formula_read.proofs.Tests.{on_test, nothing, same, same_number, all_parts, value_of_digit, is_digit_by_value}
+use Rattle.formula_read.proofs.Choices.{on_test, nothing, same, same_number, all_parts, value_of_digit, is_digit_by_value}
 use Rattle.formula_read.proofs.Corners.{CornerHolds, corner_goes}
 use Rattle.formula_read.proofs.Addresses.{spelled_cell}
 use Rattle.formula_read.proofs.Words.{AddressHolds, NameHolds, IsWord, run_cell, run_range, run_name}

@@ -1,4 +1,4 @@
-pub mod Tests
+pub mod Choices
 pub mod Stepping
 pub mod Corners
 pub mod Addresses

@@ -10,7 +10,7 @@ use Rattle.formula_read.specs.declared.partial.Partial.TheVariants.{Fresh}
 use Rattle.formula_read.specs.Partial.{step, kind_at}
 use Rattle.formula_read.specs.Longest.{run, first_byte, longest, here_or_later, fronts}
 use Rattle.formula_read.specs.Read.{kind_of}
-use Rattle.formula_read.proofs.Tests.{nothing, same}
+use Rattle.formula_read.proofs.Choices.{nothing, same}
 use Rattle.formula_read.proofs.Forms.{Ends, fresh_holds, sound, complete, name_ends}
 
 abbrev EndsFrom : Option Partial → List ℕ → List ℕ → TokenKind → Type 0

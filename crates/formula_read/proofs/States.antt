@@ -21,7 +21,7 @@ use Rattle.formula_read.specs.declared.partial.Address.TheVariants.{Cell}
 use Rattle.formula_read.specs.declared.partial.Corner.TheVariants.{Letters}
 use Rattle.formula_read.specs.Partial.{step, begun, numeral_step, quoted_step, hash_step, hash_n_step, error_step, is_single_sign, word, name_step, address_step}
 use Rattle.formula_read.specs.Read.{kind_of}
-use Rattle.formula_read.proofs.Tests.{on_test, nothing, same, same_number, value_of_digit, value_is_small}
+use Rattle.formula_read.proofs.Choices.{on_test, nothing, same, same_number, value_of_digit, value_is_small}
 use Rattle.formula_read.proofs.Corners.{one_letter}
 use Rattle.formula_read.proofs.Words.{AddressHolds, address_goes, NameHolds, name_goes, IsWord, word_is}
 

@@ -1,6 +1,6 @@
 -- the reader of tokens is somewhere exactly after the fronts of formulas
-use Rattle.std.proofs.Common.{◌≡◌, ◌≢◌, ℕ, zero, suc, ◌+◌, ◌-◌, ◌<◌, ◌≤◌, max, Bool, true, false, List, [], ◌∷◌, ◌++◌, Option, Some, None, refl, ap, sym, ◌∙◌, subst, append_assoc, arith, inl, inr}
-use Rattle.std.specs.Prelude.{◌⊎◌, pos}
+use Rattle.std.proofs.Common.{◌≡◌, ◌≢◌, ℕ, zero, suc, ◌+◌, ◌-◌, ◌<◌, ◌≤◌, max, List, [], ◌∷◌, ◌++◌, Option, Some, None, refl, ap, sym, ◌∙◌, subst, append_assoc, arith, inl, inr}
+use Rattle.std.specs.Prelude.{◌⊎◌}
 use Rattle.std.proofs.lemmas.Bool.{cases_lt}
 use Rattle.std.proofs.lemmas.List.{append-nil}
 use Rattle.ss_base.specs.declared.types.Spot.{Spot}
@@ -18,7 +18,7 @@ use Rattle.formula_tree.specs.WellFormed.{IsFun}
 use Rattle.formula_tree.specs.Tokens.{Token, numeral, text, fault, cell, range, name, sign, opening, closing, semicolon}
 use Rattle.formula_tree.specs.Grammar.{Derives, Arguments, Listed, operator_of_sign}
 use Rattle.formula_tree.specs.Grammar as grammar
-use Rattle.formula_read.proofs.Tests.{nothing, same}
+use Rattle.formula_read.proofs.Choices.{nothing, same}
 use Rattle.formula_read.specs.Places.{Bracket, group, call, Place, head, wants, has, named, begins, operand, advance, advance_all, IsProper, AreProper, IsExpression, IsFormula, IsFormulaFront}
 
 -- from where a call's arguments begin, an expression is read as from where one is wanted

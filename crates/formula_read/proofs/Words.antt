@@ -17,7 +17,7 @@ use Rattle.formula_read.specs.declared.partial.Corner.{Corner}
 use Rattle.formula_read.specs.declared.partial.Corner.TheVariants.{Start, Dollar, Letters, Fixed, Digits}
 use Rattle.formula_read.specs.Partial.{corner_step, cell_step, cell_or_neither, range_or_neither, address_step, name_step, word, begun}
 use Rattle.formula_read.specs.Longest.{run}
-use Rattle.formula_read.proofs.Tests.{on_test, nothing, same, same_number, all_parts, letter_is_no_digit, digit_is_no_colon}
+use Rattle.formula_read.proofs.Choices.{on_test, nothing, same, same_number, all_parts, letter_is_no_digit, digit_is_no_colon}
 use Rattle.formula_read.proofs.Corners.{CornerHolds, corner_goes, behind_two}
 use Rattle.formula_read.proofs.Addresses.{spelled_cell, cell_spelled, corner_run, corner_completes}
 

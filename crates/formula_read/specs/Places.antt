@@ -1,8 +1,7 @@
 -- Where a reader of a formula's tokens stands.
-use Rattle.std.specs.Prelude.{ℕ, ◌≡◌, List, [], ◌∷◌, ◌++◌, Option, Some, None, map}
+use Rattle.std.specs.Prelude.{ℕ, ◌≡◌, List, [], ◌∷◌, ◌++◌, Option, Some, None}
 use Rattle.ss_base.specs.declared.types.Spot.{Spot}
 use Rattle.ss_base.specs.declared.types.Span.{Span}
-use Rattle.formula_tree.specs.declared.operators.BinOp.{BinOp}
 use Rattle.formula_tree.specs.declared.operators.BinOp.TheVariants.{Add, Sub, Eq}
 use Rattle.formula_tree.specs.declared.functions.Fun.{Fun}
 use Rattle.formula_tree.specs.Names.{name_of}
