@@ -10,3 +10,4 @@ pub mod Next
 pub mod Cuts
 pub mod Walk
 pub mod Syntax
+pub mod Functions

@@ -1,5 +1,5 @@
 -- Where a reader of a formula's tokens stands.
-use Rattle.std.specs.Prelude.{ℕ, ◌≡◌, List, [], ◌∷◌, ◌++◌, Option, Some, None}
+use Rattle.std.specs.Prelude.{ℕ, ◌≡◌, List, [], ◌∷◌, ◌++◌, Option, Some, None, map}
 use Rattle.ss_base.specs.declared.types.Spot.{Spot}
 use Rattle.ss_base.specs.declared.types.Span.{Span}
 use Rattle.formula_tree.specs.declared.operators.BinOp.TheVariants.{Add, Sub, Eq}
@@ -8,7 +8,8 @@ use Rattle.formula_tree.specs.Names.{name_of}
 use Rattle.formula_tree.specs.Tree.{Tree}
 use Rattle.formula_tree.specs.WellFormed.{IsFun}
 use Rattle.formula_tree.specs.Tokens.{Token, numeral, text, fault, cell, range, name, sign, opening, closing, semicolon}
-use Rattle.formula_tree.specs.Grammar.{Derives}
+use Rattle.formula_tree.specs.Lexing.{Lexeme, Lexes}
+use Rattle.formula_tree.specs.Grammar.{Derives, Stands}
 
 -- a bracket that is open: of a group, or of a call's arguments
 pub data Bracket : Type 0 where
@@ -84,3 +85,14 @@ IsFormula ts = (us : List Token) × (ts ≡ sign Eq ∷ us) × IsExpression us
 -- some formula's tokens begin so
 abbrev pub IsFormulaFront : List Token → Type 0
 IsFormulaFront ts = (rest : List Token) × IsFormula (ts ++ rest)
+
+abbrev pub tokens_of : List Lexeme → List Token
+tokens_of ls = map (λ l. l.token) ls
+
+-- the text is a formula's
+abbrev pub IsFormulaText : List ℕ → Type 0
+IsFormulaText bs = (t : Tree Spot Span) × (n : ℕ) × Stands bs t n
+
+-- the text is cut into tokens, and the reader of those ends with an operand outside all brackets
+abbrev pub IsReadToEnd : List ℕ → Type 0
+IsReadToEnd bs = (ls : List Lexeme) × Lexes 0 bs ls × (advance_all (Some head) (tokens_of ls) ≡ Some (has []))
