@@ -35,7 +35,7 @@ after_ge n [] = omega arith
 after_ge n (d ∷ ds) = let more = after_ge (n * 10 + digit_value d) ds in omega arith
 
 -- both parts of a test
-both : (a b : Bool) → (a && b) ≡ true → (a ≡ true) × (b ≡ true)
+pub both : (a b : Bool) → (a && b) ≡ true → (a ≡ true) × (b ≡ true)
 both true true h = (refl, refl)
 both true false h = absurd (cc)
 both false b h = absurd (cc)

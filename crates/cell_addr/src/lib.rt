@@ -3,8 +3,13 @@
 
 mod cell;
 mod column;
+mod law;
 mod number;
 
 pub use cell::{read_cell, read_range};
 pub use column::{col_of, letters_of};
+pub use law::addresses_are_read_back;
 pub use number::read_count;
+
+#[cfg(test)]
+mod tests;

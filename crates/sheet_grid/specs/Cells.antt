@@ -1,5 +1,5 @@
 -- What is read from a sheet by positions.
-use Rattle.std.specs.Prelude.{ℕ, length}
+use Rattle.std.specs.Prelude.{ℕ, Bool, true, List, length, take, slice_index_or, if◌then◌else◌, Option, None, Some}
 use Rattle.ss_base.specs.declared.types.Size.{Size}
 use Rattle.sheet_ops.specs.declared.content.Content.{Content}
 use Rattle.sheet_ops.specs.declared.content.Content.TheVariants as content
@@ -16,3 +16,7 @@ kind_of (content.Num z) = kind.Num z
 -- how many rows and columns are seen
 abbrev pub visible_size : PlacedSheet → Size
 visible_size P = record { rows = length (visible_places P.rows); cols = length (visible_places P.cols) }
+
+-- how many lines before a place are seen, where the one at the place is seen itself; there is none past the end
+abbrev pub visible_index : List Bool → ℕ → Option ℕ
+visible_index marks place = if slice_index_or marks place true then None else Some (length (visible_places (take place marks)))

@@ -1,18 +1,26 @@
-//! A sheet by positions.
+//! A sheet by positions, which keeps only the cells that aren't empty.
 #![tactic(auto)]
 
-ghost use Rattle.std.specs.Prelude.{◌≡◌, ◌≢◌, ◌<◌, ◌≤◌, ◌+◌, ℕ, [], length, map, slice_get, IfOk, OnOk, OnErr, IfSome, IfNone};
+mod axis;
+mod row;
+mod write;
+
+ghost use Rattle.std.specs.Prelude.{◌≡◌, ◌≢◌, ◌<◌, ◌≤◌, ℕ, length, slice_get, IfOk, OnOk, OnErr, IfSome, IfNone};
 ghost use Rattle.sheet_ops.specs.declared.content.Content.TheVariants as content;
 ghost use Rattle.sheet_ops.specs.Identity.{opened};
 ghost use Rattle.sheet_ops.specs.Lines.{visible_places};
 ghost use Rattle.sheet_ops.specs.Placed.{placed, placed_size, cell_at};
 ghost use Rattle.sheet_ops.specs.Fits.{EffectFits};
 ghost use Rattle.sheet_ops.specs.Effects.{effect_on, Steps};
-ghost use Rattle.sheet_grid.specs.Cells.{kind_of, visible_size};
+ghost use Rattle.sheet_grid.specs.Cells.{kind_of, visible_index, visible_size};
 
+use crate::axis::{line_at, line_seen};
+use crate::row::{empty_rows, filled_from, kind_in};
+use crate::write::{write_puts, written_by};
 use sheet_ops::{Content, Effect};
-use ss_base::{Memory, Seq, Size};
+use ss_base::{Memory, Size};
 use std::alloc::Global;
+use std::collections::BTreeMap;
 use std::marker::Model;
 
 /// What kind of content a cell has.
@@ -23,38 +31,41 @@ pub enum Kind {
 }
 
 /// A sheet, which contracts see by positions: per row and per column whether it is marked, and the
-/// contents row by row.
-#[derive(Debug, Drop)]
+/// contents row by row. It keeps a map for each row, in which an empty cell has no key.
+#[derive(Drop)]
 pub struct Sheet {
-    rows: Seq<bool>,
-    cols: Seq<bool>,
-    cells: Seq<Seq<Content>>,
+    rows: Vec<BTreeMap<u32, Content>>,
+    cols: u32,
 }
 
 impl Model for Sheet {
     ghost use Rattle.sheet_ops.specs.Placed.{PlacedSheet};
     ghost use Rattle.std.specs.Coded.{codes};
-    ghost use Rattle.sheet_ops.specs.contracts.content.Content as held;
-    ghost use Rattle.std.specs.Prelude.{length, ◌≤◌};
+    ghost use Rattle.sheet_ops.specs.contracts.content.Content as content;
+    ghost use Rattle.std.specs.Prelude.{map};
+    ghost use Rattle.sheet_grid.specs.Rows.{held, sheet_of, IsTidy};
 
     ghost Value = { PlacedSheet };
 
-    ghost coded = { Prim.hlevel (codes, held.the_row.coded) };
+    ghost coded = { Prim.hlevel (codes, content.the_row.coded) };
 
-    ghost view = { λ s. record { rows = s.rows; cols = s.cols; cells = s.cells } };
+    ghost view = { λ s. sheet_of s.cols (map held s.rows.items) };
 
-    ghost invariant = { λ s. (length s.rows ≤ 16000) × (length s.cols ≤ 16000) };
+    ghost invariant = { λ s. IsTidy s.cols (map held s.rows.items) };
 }
 
 impl Sheet {
-    /// The opening sheet: nothing is marked and every cell is empty. It has 1 to 1,000 rows and 1 to
-    /// 64 columns.
-    pub fn new(_alloc: Global, _size: Size) -> Result<Sheet, Memory>
-        requires rows { _size.rows ≤ 1000 }
-        requires cols { _size.cols ≤ 64 }
-        ensures { IfOk result (λ s. s ≡ placed (opened _size)) }
+    /// The opening sheet: nothing is marked and every cell is empty.
+    pub fn new(alloc: Global, size: Size) -> Result<Sheet, Memory>
+        requires rows { size.rows ≤ 1000 }
+        requires cols { size.cols ≤ 64 }
+        ensures { IfOk result (λ s. s ≡ placed (opened size)) }
     {
-        Err(Memory)
+        let rows = empty_rows(alloc, size.rows)?;
+        Ok(Sheet {
+            rows,
+            cols: size.cols,
+        })
     }
 
     /// How many rows and columns there are, hidden ones too.
@@ -65,17 +76,76 @@ impl Sheet {
     {
         Size {
             rows: self.rows.len() as u32,
-            cols: self.cols.len() as u32,
+            cols: self.cols,
         }
     }
 
-    /// Does what an effect says, by positions. A refused call leaves the sheet.
-    pub fn apply(&mut self, _effect: &Effect) -> Result<(), Memory>
-        requires { EffectFits (placed_size self.old) _effect.now }
-        ensures ok { OnOk result (self.new ≡ effect_on self.old _effect.now) }
-        ensures step { OnOk result (Steps self.old _effect.now self.new) }
+    /// How many rows and columns are visible.
+    pub fn visible(&self) -> Size
+        ensures size { result ≡ visible_size self.now }
+        ensures rows { result.rows ≤ 16000 }
+        ensures cols { result.cols ≤ 16000 }
+    {
+        Size {
+            rows: self.rows.len() as u32,
+            cols: self.cols,
+        }
+    }
+
+    /// The position of the row with this visible index, and `None` exactly where there is none.
+    pub fn row_at(&self, visible: u32) -> Option<u32>
+        ensures { result ≡ slice_get (visible_places self.now.rows) visible }
+    {
+        line_at(self.rows.len() as u32, visible)
+    }
+
+    /// The position of the column with this visible index, and `None` exactly where there is none.
+    pub fn col_at(&self, visible: u32) -> Option<u32>
+        ensures { result ≡ slice_get (visible_places self.now.cols) visible }
+    {
+        line_at(self.cols, visible)
+    }
+
+    /// The visible index of the column at this position, and `None` exactly where it is hidden or
+    /// isn't there.
+    pub fn col_seen(&self, col: u32) -> Option<u32>
+        ensures { result ≡ visible_index self.now.cols col }
+    {
+        line_seen(self.cols, col)
+    }
+
+    /// What a cell holds, by its position. It takes time with the logarithm of the row's filled
+    /// cells.
+    pub fn kind(&self, row: u32, col: u32) -> Kind
+        requires row { row < length self.now.rows }
+        requires col { col < length self.now.cols }
+        ensures { result ≡ kind_of (cell_at self.now row col) }
+    {
+        kind_in(&self.rows[row as usize], col)
+    }
+
+    /// The first column from `from` on whose cell in this row isn't empty, hidden columns too. It
+    /// takes time with the logarithm of the row's filled cells.
+    pub fn next_in_row(&self, row: u32, from: u32) -> Option<u32>
+        requires row { row < length self.now.rows }
+        ensures within { IfSome result (λ c. (from ≤ c) × (c < length self.now.cols) × (cell_at self.now row c ≢ content.Empty)) }
+        ensures first { IfSome result (λ c. (k : ℕ) → from ≤ k → k < c → cell_at self.now row k ≡ content.Empty) }
+        ensures none { IfNone result ((k : ℕ) → from ≤ k → k < length self.now.cols → cell_at self.now row k ≡ content.Empty) }
+    {
+        filled_from(&self.rows[row as usize], from)
+    }
+
+    /// Does what an effect says, by positions. It takes time with the logarithm of a row's filled
+    /// cells for each cell that is written. A refused call leaves the sheet as it was.
+    pub fn apply(&mut self, effect: &Effect) -> Result<(), Memory>
+        requires { EffectFits (placed_size self.old) effect.now }
+        ensures ok { OnOk result (self.new ≡ effect_on self.old effect.now) }
+        ensures step { OnOk result (Steps self.old effect.now self.new) }
         ensures err { OnErr result (self.new ≡ self.old) }
     {
-        Err(Memory)
+        write_puts(self.rows.as_mut_slice(), written_by(effect))
     }
 }
+
+#[cfg(test)]
+mod tests;

@@ -1,2 +1,5 @@
 pub mod Ids
 pub mod Written
+pub mod Overwritten
+pub mod Views
+pub mod Seen

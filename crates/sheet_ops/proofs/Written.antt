@@ -1,6 +1,7 @@
 -- A write by identity, seen by positions.
-use Rattle.std.proofs.Common.{◌≡◌, ℕ, zero, suc, ◌<◌, Bool, true, false, cond, List, [], ◌∷◌, length, refl, ap, sym, ◌∙◌, arith}
+use Rattle.std.proofs.Common.{◌≡◌, ℕ, zero, suc, ◌<◌, true, false, cond, List, [], ◌∷◌, ◌++◌, length, refl, ap, sym, ◌∙◌, arith}
 use Rattle.std.specs.Prelude.{◌&&◌, map, slice_index_or, slice_set}
+use Rattle.ss_base.specs.declared.types.Size.{Size}
 use Rattle.sheet_ops.specs.declared.content.Content.{Content}
 use Rattle.sheet_ops.specs.declared.content.Content.TheVariants as content
 use Rattle.sheet_ops.specs.declared.content.Put.{Put}
@@ -8,10 +9,10 @@ use Rattle.sheet_ops.specs.declared.operation.Effect.{Effect}
 use Rattle.sheet_ops.specs.declared.operation.Effect.TheVariants as effect
 use Rattle.sheet_ops.specs.LineIds.{LineId, id_eq}
 use Rattle.sheet_ops.specs.Lines.{Line, no_line, rec_at}
-use Rattle.sheet_ops.specs.Identity.{IdContent, IdPut, IdSheet}
+use Rattle.sheet_ops.specs.Identity.{IdContent, IdSheet}
 use Rattle.sheet_ops.specs.Act.{put_at, puts_at}
 use Rattle.sheet_ops.specs.Naming.{resolve_put, locate_content, resolve_content, step}
-use Rattle.sheet_ops.specs.Placed.{PlacedSheet, placed, size_of}
+use Rattle.sheet_ops.specs.Placed.{placed, size_of}
 use Rattle.sheet_ops.specs.Fits.{Avoids, AreApart, PutsFit, EffectFits, IsWellFormed}
 use Rattle.sheet_ops.specs.Effects.{cell_written, cells_written, effect_on}
 use Rattle.sheet_ops.proofs.Ids.{id_eq-self, id_eq-other}
@@ -34,7 +35,7 @@ module _ {A : Type 0} (f g : Line → A) where
       apart_at (m ∷ ls) zero v k = v.0
       apart_at (m ∷ ls) (suc p) v k = apart_at ls p v.1 (omega arith)
 
-index_map : {A : Type 0} (f : Line → A) (d : A) (ls : List Line) (p : ℕ) → p < length ls → slice_index_or (map f ls) p d ≡ f (slice_index_or ls p no_line)
+pub index_map : {A : Type 0} (f : Line → A) (d : A) (ls : List Line) (p : ℕ) → p < length ls → slice_index_or (map f ls) p d ≡ f (slice_index_or ls p no_line)
 index_map f d [] p k = absurd (omega arith)
 index_map f d (l ∷ ls) zero k = refl
 index_map f d (l ∷ ls) (suc p) k = index_map f d ls p (omega arith)
@@ -43,6 +44,19 @@ index_map f d (l ∷ ls) (suc p) k = index_map f d ls p (omega arith)
 pub content_again : (X : IdSheet) (c : Content) → locate_content X (resolve_content X c) ≡ c
 content_again X content.Empty = refl
 content_again X (content.Num z) = refl
+
+-- each cell is inside
+abbrev pub AllInside : Size → List Put → Type 0
+AllInside size [] = Unit {0}
+AllInside size (p ∷ ps) = (p.row < size.rows) × (p.col < size.cols) × AllInside size ps
+
+pub AllInside-fit : (size : Size) (ps : List Put) → PutsFit size ps → AllInside size ps
+AllInside-fit size [] f = tt
+AllInside-fit size (p ∷ ps) f = (f.0, f.1, AllInside-fit size ps f.4)
+
+pub AllInside-append : (size : Size) (ps qs : List Put) → AllInside size ps → AllInside size qs → AllInside size (ps ++ qs)
+AllInside-append size [] qs f g = g
+AllInside-append size (p ∷ ps) qs f g = (f.0, f.1, AllInside-append size ps qs f.2 g)
 
 module _ (X : IdSheet) (ok : IsWellFormed X) where
   abbrev row_of : (LineId → LineId → IdContent) → Line → List Content
@@ -71,11 +85,11 @@ module _ (X : IdSheet) (ok : IsWellFormed X) where
           at k h = (λ i. locate_content X (cond (same i && (ap (λ (m : Line). id_eq m.rec k.rec) h ∙ id_eq-self k.rec) i) (resolve_content X p.content) (cells l.rec k.rec))) ∙ content_again X p.content
 
   -- so many cells written by identity are so many written by positions
-  pub placed-puts_at : (cells : LineId → LineId → IdContent) (ps : List Put) → PutsFit (size_of X) ps →
+  pub placed-puts_at : (cells : LineId → LineId → IdContent) (ps : List Put) → AllInside (size_of X) ps →
       map (row_of (puts_at cells (map (resolve_put X) ps))) X.rows.lines ≡ cells_written (map (row_of cells) X.rows.lines) ps
   placed-puts_at cells [] f = refl
-  placed-puts_at cells (p ∷ ps) f = placed-puts_at (put_at cells (resolve_put X p)) ps f.4 ∙ ap (λ (rows : List (List Content)). cells_written rows ps) (one_written cells p f.0 f.1)
+  placed-puts_at cells (p ∷ ps) f = placed-puts_at (put_at cells (resolve_put X p)) ps f.2 ∙ ap (λ (rows : List (List Content)). cells_written rows ps) (one_written cells p f.0 f.1)
 
 -- the position step of an effect, seen by positions
 pub placed-step : (X : IdSheet) (e : Effect) (id : LineId) → IsWellFormed X → EffectFits (size_of X) e → placed (step X e id) ≡ effect_on (placed X) e
-placed-step X (effect.Write ps) id ok f = ap (λ (rows : List (List Content)). record (placed X) { cells = rows }) (placed-puts_at X ok X.cells ps f.1)
+placed-step X (effect.Write ps) id ok f = ap (λ (rows : List (List Content)). record (placed X) { cells = rows }) (placed-puts_at X ok X.cells ps (AllInside-fit (size_of X) ps f.1))

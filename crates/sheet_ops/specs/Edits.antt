@@ -44,7 +44,10 @@ write_one None col what = Err fault.OutOfSheet
 write_one (Some row) None what = Err fault.OutOfSheet
 write_one (Some row) (Some col) what = Ok (intent.Write (record { row = row; col = col; content = what } ∷ []))
 
+-- by the marks of the rows and of the columns
+abbrev pub intended_by : List Bool → List Bool → Edit → Result Intent EditErr
+intended_by rows cols (edit.Set spot entry) = write_one (slice_get (visible_places rows) spot.row) (slice_get (visible_places cols) spot.col) (entered entry)
+
 -- What an edit denotes on a sheet: an intent by positions, or why it is refused.
 abbrev pub intended : IdSheet → Edit → Result Intent EditErr
-intended X (edit.Set spot entry) =
-    write_one (slice_get (visible_places (marks X.rows)) spot.row) (slice_get (visible_places (marks X.cols)) spot.col) (entered entry)
+intended X e = intended_by (marks X.rows) (marks X.cols) e

@@ -1,5 +1,6 @@
 -- Which operations fit a sheet of a size, and which sheets are well formed.
-use Rattle.std.specs.Prelude.{◌≡◌, ◌<◌, ◌≤◌, ◌&&◌, ◌||◌, nat_eq, Bool, false, List, [], ◌∷◌, length}
+use Rattle.std.specs.Prelude.{◌≡◌, ◌<◌, ◌≤◌, ◌&&◌, nat_eq, Bool, false, List, [], ◌∷◌, length}
+use Rattle.std.specs.List.{list_any}
 use Rattle.ss_base.specs.declared.types.Size.{Size}
 use Rattle.sheet_ops.specs.declared.content.Content.{Content}
 use Rattle.sheet_ops.specs.declared.content.Content.TheVariants as content
@@ -22,8 +23,7 @@ same_cell p q = nat_eq p.row q.row && nat_eq p.col q.col
 
 -- is the cell of the last among those of the first
 abbrev pub writes_cell : List Put → Put → Bool
-writes_cell [] q = false
-writes_cell (p ∷ ps) q = same_cell p q || writes_cell ps q
+writes_cell ps q = list_any (λ p. same_cell p q) ps
 
 -- each cell is inside and no two are the same
 abbrev pub PutsFit : Size → List Put → Type 0

@@ -1,3 +1,6 @@
 pub mod formers
+pub mod Ends
+pub mod Feed
 pub mod Lines
+pub mod Search
 pub mod Streams

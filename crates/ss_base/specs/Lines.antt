@@ -1,5 +1,5 @@
 -- The lines of bytes: pieces that end at line feeds. A last piece without one is a line unless it is empty.
-use Rattle.std.specs.Prelude.{ℕ, ◌≡◌, ◌+◌, nat_eq, nat_lt, ◌||◌, Bool, true, false, if◌then◌else◌, List, [], ◌∷◌, ◌++◌, length, Option, Some, None, Result, Ok, Err}
+use Rattle.std.specs.Prelude.{ℕ, ◌≡◌, ◌+◌, ◌<◌, ◌≤◌, ◌⊎◌, nat_eq, nat_lt, ◌||◌, Bool, true, false, if◌then◌else◌, List, [], ◌∷◌, ◌++◌, length, Option, Some, None, Result, Ok, Err}
 use Rattle.ss_base.specs.declared.lines.Turn.{Turn}
 use Rattle.ss_base.specs.declared.lines.Turn.TheVariants as turn
 use Rattle.ss_base.specs.declared.lines.LineErr.{LineErr}
@@ -51,3 +51,12 @@ GivesLine (Some old) (Some new) held (Ok turn.Line) = (l : Line) × (old ≡ l �
 GivesLine (Some old) (Some new) held (Ok turn.End) = (old ≡ []) × (new ≡ [])
 GivesLine (Some old) (Some new) held (Err fault.TooLong) = (l : Line) × (rest : List Line) × (old ≡ l ∷ rest) × (is_long l ≡ true) × (new ≡ old)
 GivesLine (Some old) (Some new) held (Err fault.ReadFault) = new ≡ old
+
+-- How far a reading moves on, by the bytes used before and after it and the line held after it: past a line of at
+-- most 4,096 bytes, with its line feed if it has one, up to byte 1,048,576 at most; and else not at all.
+abbrev pub MovesOn : ℕ → ℕ → List ℕ → Result Turn LineErr → Type 0
+MovesOn old new held (Ok turn.Line) =
+    (old < new) × (new ≤ 1048576) × (length held ≤ 4096) × ((new ≡ old + length held + 1) ⊎ (new ≡ old + length held))
+MovesOn old new held (Ok turn.End) = new ≡ old
+MovesOn old new held (Err fault.TooLong) = new ≡ old
+MovesOn old new held (Err fault.ReadFault) = new ≡ old

@@ -111,3 +111,20 @@ impl<T: Drop> Seq<T> {
         Ok(())
     }
 }
+
+#[cfg(test)]
+mod tests {
+    use super::*;
+    use std::test::Fail;
+
+    #[test]
+    fn pushes(rt: HostRuntime) -> Result<(), Fail> {
+        let mut list = Seq::new(rt.alloc());
+        for item in [7u8, 8, 9] {
+            list.push(item)?;
+        }
+        assert_eq!(rt; list.as_slice(), [7, 8, 9].as_slice());
+        assert_eq!(rt; list.get(3), None);
+        Ok(())
+    }
+}

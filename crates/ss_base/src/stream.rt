@@ -1,8 +1,7 @@
-ghost use Rattle.std.specs.Prelude.{◌≡◌, vec_len, vec_capacity, [], ℕ, ◌<◌, ◌≤◌, ◌++◌, List, Option, length, take, drop, IfOk, OnOk, OnErr, Some, None};
+ghost use Rattle.std.specs.Prelude.{◌≡◌, ℕ, ◌<◌, ◌≤◌, List, Option, length, take, IfOk, OnOk, OnErr};
 ghost use Rattle.ss_base.specs.Streams.{Rose, Reads, AddsBack, TakesPrefix};
 
-use crate::types::{Failed, Memory};
-use std::alloc::Global;
+use crate::types::Failed;
 
 /// Where bytes are read from.
 pub trait Source {
@@ -56,83 +55,4 @@ pub fn write_all<K: Sink>(sink: &mut K, piece: &[u8]) -> Result<(), Failed>
         at += sink.write(rest)?;
     }
     Ok(())
-}
-
-/// A source in memory that never fails.
-#[derive(Debug, Drop)]
-pub struct PureSource {
-    bytes: Vec<u8>,
-    at: usize,
-    ghost within: { at ≤ length bytes.items },
-}
-
-impl PureSource {
-    pub fn new(alloc: Global, bytes: &[u8]) -> Result<PureSource, Memory>
-        ensures { IfOk result (λ s. ⟦<PureSource as Source>⟧.left s ≡ Some bytes.now) }
-    {
-        let bytes = Vec::from_slice(alloc, bytes)?;
-        Ok(PureSource { bytes, at: 0 })
-    }
-}
-
-impl Source for PureSource {
-    ghost left = { λ s. Some (drop s.at s.bytes.items) };
-
-    ghost faults = { λ s. 0 };
-
-    fn read(&mut self, buf: &mut [u8]) -> Result<usize, Failed> {
-        let n = buf.len().min(self.bytes.len() - self.at);
-        buf[..n].copy_from_slice(&self.bytes[self.at..self.at + n]);
-        self.at += n;
-        Ok(n)
-    }
-}
-
-/// A sink in memory that fails where its room is full.
-#[derive(Debug, Drop)]
-pub struct PureSink {
-    bytes: Vec<u8>,
-    room: usize,
-    faults: u64,
-    ghost reserved: { room ≤ vec_capacity bytes },
-    ghost within: { vec_len bytes ≤ room },
-    ghost full: { 0 < faults → vec_len bytes ≡ room },
-}
-
-impl PureSink {
-    pub fn new(alloc: Global, room: usize) -> Result<PureSink, Memory>
-        ensures empty { IfOk result (λ s. ⟦<PureSink as Sink>⟧.taken s ≡ Some []) }
-        ensures none { IfOk result (λ s. ⟦<PureSink as Sink>⟧.faults s ≡ 0) }
-    {
-        let bytes = Vec::with_capacity(alloc, room)?;
-        Ok(PureSink {
-            bytes,
-            room,
-            faults: 0,
-        })
-    }
-
-    pub fn bytes(&self) -> &[u8]
-        ensures { Some result.now ≡ ⟦<PureSink as Sink>⟧.taken self.now }
-    {
-        self.bytes.as_slice()
-    }
-}
-
-impl Sink for PureSink {
-    ghost taken = { λ s. Some s.bytes.items };
-
-    ghost faults = { λ s. s.faults };
-
-    fn write(&mut self, piece: &[u8]) -> Result<usize, Failed> {
-        let n = piece.len().min(self.room - self.bytes.len());
-        if n == 0 && !piece.is_empty() {
-            self.faults = self.faults.saturating_add(1);
-            return Err(Failed);
-        }
-        match self.bytes.extend_from_slice(&piece[..n]) {
-            Ok(()) => Ok(n),
-            Err(_) => unreachable!(),
-        }
-    }
 }

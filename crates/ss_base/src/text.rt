@@ -56,3 +56,16 @@ impl Txt {
         Ok(Txt { bytes })
     }
 }
+
+#[cfg(test)]
+mod tests {
+    use super::*;
+    use std::test::Fail;
+
+    #[test]
+    fn copies(rt: HostRuntime) -> Result<(), Fail> {
+        let text = Txt::new(rt.alloc(), b"abc")?;
+        assert_eq!(rt; text.copy()?.bytes(), text.bytes());
+        Ok(())
+    }
+}

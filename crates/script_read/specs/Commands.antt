@@ -1,0 +1,83 @@
+-- the command that a line of a script is
+use Rattle.std.specs.Prelude.{ℕ, nat_eq, nat_le, ◌||◌, ◌&&◌, Bool, true, if◌then◌else◌, List, [], ◌∷◌, codes, Option, Some, None, option_map, is_some}
+use Rattle.std.specs.List.{list_all, join_with_byte}
+use Rattle.std.specs.Str.{bytes_eq}
+use Rattle.ss_base.specs.declared.types.Spot.{Spot}
+use Rattle.cell_addr.specs.Cells.{cell_of}
+use Rattle.cell_addr.specs.Rows.{counted}
+use Rattle.sheet_ops.specs.declared.edit.Edit.TheVariants as edit
+use Rattle.sheet_ops.specs.Edits.{number_of}
+use Rattle.script_read.specs.declared.command.Command.{Command}
+use Rattle.script_read.specs.declared.command.Command.TheVariants as command
+use Rattle.script_read.specs.Words.{is_printable, words, named}
+
+-- `sheet COUNT COUNT`, of at most 1,000 rows and 64 columns
+abbrev pub sheet_of : Option ℕ → Option ℕ → Option Command
+sheet_of (Some rows) (Some cols) =
+    if nat_le rows 1000 && nat_le cols 64
+    then Some (command.Sheet (record { rows = rows; cols = cols }))
+    else None
+sheet_of _ _ = None
+
+-- `NAME push COUNT` and `NAME pull COUNT`
+abbrev pub push_of : Option (List ℕ) → Option ℕ → Option Command
+push_of (Some name) (Some count) = Some (command.Push name (Some count))
+push_of _ _ = None
+
+abbrev pub pull_of : Option (List ℕ) → Option ℕ → Option Command
+pull_of (Some name) (Some count) = Some (command.Pull name (Some count))
+pull_of _ _ = None
+
+-- a cell by its address without `$`
+abbrev pub plain_cell : Option Spot → Option Spot
+plain_cell None = None
+plain_cell (Some spot) = if spot.abs_row || spot.abs_col then None else Some spot
+
+-- `NAME set CELL ENTRY`, where the entry is a number
+abbrev pub set_of : Option (List ℕ) → Option Spot → List ℕ → Option Command
+set_of (Some name) (Some spot) entry =
+    if is_some (number_of entry) then Some (command.Edit name (edit.Set spot entry)) else None
+set_of _ _ _ = None
+
+abbrev pub of_one_word : List ℕ → Option Command
+of_one_word first = if bytes_eq first (codes "end") then Some command.End else None
+
+abbrev pub of_two_words : List ℕ → List ℕ → Option Command
+of_two_words first second =
+    if bytes_eq first (codes "site") then option_map command.Site (named second)
+    else if bytes_eq first (codes "show") then option_map command.Show (named second)
+    else if bytes_eq first (codes "push") then (if bytes_eq second (codes "all") then Some command.PushAll else None)
+    else if bytes_eq first (codes "pull") then (if bytes_eq second (codes "all") then Some command.PullAll else None)
+    else if bytes_eq second (codes "push") then option_map (λ name. command.Push name None) (named first)
+    else if bytes_eq second (codes "pull") then option_map (λ name. command.Pull name None) (named first)
+    else None
+
+abbrev pub of_three_words : List ℕ → List ℕ → List ℕ → Option Command
+of_three_words first second third =
+    if bytes_eq first (codes "sheet") then sheet_of (counted second) (counted third)
+    else if bytes_eq second (codes "push") then push_of (named first) (counted third)
+    else if bytes_eq second (codes "pull") then pull_of (named first) (counted third)
+    else None
+
+-- the entry is the rest of the line, spaces included
+abbrev pub of_more_words : List ℕ → List ℕ → List ℕ → List ℕ → Option Command
+of_more_words first second third entry =
+    if bytes_eq second (codes "set") then set_of (named first) (plain_cell (cell_of third)) entry else None
+
+abbrev pub of_words : List (List ℕ) → Option Command
+of_words [] = None
+of_words (first ∷ []) = of_one_word first
+of_words (first ∷ second ∷ []) = of_two_words first second
+of_words (first ∷ second ∷ third ∷ []) = of_three_words first second third
+of_words (first ∷ second ∷ third ∷ fourth ∷ others) = of_more_words first second third (join_with_byte 32 (fourth ∷ others))
+
+-- an empty line, or one that begins with `#`
+abbrev pub is_note : List ℕ → Bool
+is_note [] = true
+is_note (b ∷ bs) = nat_eq b 35
+
+abbrev pub command_of : List ℕ → Option Command
+command_of line =
+    if list_all is_printable line
+    then (if is_note line then Some command.Note else of_words (words line))
+    else None

@@ -1,0 +1,44 @@
+ghost use Rattle.std.specs.Prelude.{◌≡◌, IfOk};
+ghost use Rattle.script_read.specs.Forms.{command_said};
+
+use crate::command::Command;
+use sheet_ops::Edit;
+use ss_base::{Memory, Size, Spot, Txt};
+use std::alloc::Global;
+
+/// A command whose texts are still parts of the line.
+#[derive(Clone, Copy, Debug)]
+pub enum Form<'a> {
+    Note,
+    Sheet(Size),
+    Site(&'a [u8]),
+    Set(&'a [u8], Spot, &'a [u8]),
+    Push(&'a [u8], Option<u32>),
+    Pull(&'a [u8], Option<u32>),
+    PushAll,
+    PullAll,
+    Show(&'a [u8]),
+    End,
+}
+
+/// The command, with texts of its own.
+pub fn to_command(alloc: Global, form: Form<'_>) -> Result<Command, Memory>
+    ensures { IfOk result (λ c. c ≡ command_said form.entry) }
+{
+    let command = match form {
+        Form::Note => Command::Note,
+        Form::Sheet(size) => Command::Sheet(size),
+        Form::Site(name) => Command::Site(Txt::new(alloc, name)?),
+        Form::Set(name, spot, entry) => {
+            let name = Txt::new(alloc, name)?;
+            Command::Edit(name, Edit::Set(spot, Txt::new(alloc, entry)?))
+        }
+        Form::Push(name, count) => Command::Push(Txt::new(alloc, name)?, count),
+        Form::Pull(name, count) => Command::Pull(Txt::new(alloc, name)?, count),
+        Form::PushAll => Command::PushAll,
+        Form::PullAll => Command::PullAll,
+        Form::Show(name) => Command::Show(Txt::new(alloc, name)?),
+        Form::End => Command::End,
+    };
+    Ok(command)
+}

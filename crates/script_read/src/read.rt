@@ -1,0 +1,164 @@
+ghost use Rattle.std.specs.Prelude.{◌≡◌, ◌↔◌, Some, None, IfOk, IsErrOf};
+ghost use Rattle.std.specs.List.{list_all};
+ghost use Rattle.cell_addr.specs.Cells.{cell_of};
+ghost use Rattle.script_read.specs.Commands.{command_of, is_note, of_words, of_one_word, of_two_words, of_three_words, of_more_words, plain_cell, sheet_of};
+ghost use Rattle.script_read.specs.Forms.{said};
+ghost use Rattle.script_read.specs.Words.{is_printable, words};
+
+use crate::command::{Command, LineFault};
+use crate::form::{Form, to_command};
+use crate::words::{cut, is_number, is_word, name_of};
+use cell_addr::{read_cell, read_count};
+use ss_base::{Size, Spot};
+use std::alloc::Global;
+
+/// The command that a line of a script is, given without its line feed. `Grammar` comes exactly where the
+/// line is none of the forms; then no memory was asked for.
+pub fn read_command(alloc: Global, line: &[u8]) -> Result<Command, LineFault>
+    ensures command { IfOk result (λ c. command_of line.now ≡ Some c) }
+    ensures grammar { IsErrOf result LineFault.Grammar ↔ (command_of line.now ≡ None) }
+{
+    match form_of(line) {
+        None => Err(LineFault::Grammar),
+        Some(form) => Ok(to_command(alloc, form)?),
+    }
+}
+
+fn form_of(line: &[u8]) -> Option<Form<'_>>
+    ensures { said result ≡ command_of line.now }
+{
+    if !is_clean(line) {
+        return None;
+    }
+    if is_note(line) {
+        return Some(Form::Note);
+    }
+    form_of_words(line)
+}
+
+/// Whether a line has bytes 32 to 126 alone.
+fn is_clean(line: &[u8]) -> bool
+    ensures { result ≡ list_all is_printable line.now }
+{
+    line.iter().all(|b| (b' '..=b'~').contains(b))
+}
+
+fn is_note(line: &[u8]) -> bool
+    ensures { result ≡ is_note line.now }
+{
+    matches!(line, [] | [b'#', ..])
+}
+
+/// By the number of words.
+fn form_of_words(line: &[u8]) -> Option<Form<'_>>
+    ensures { said result ≡ of_words (words line.now) }
+{
+    let (first, rest) = cut(line);
+    let Some(rest) = rest else {
+        return of_one_word(first);
+    };
+    let (second, rest) = cut(rest);
+    let Some(rest) = rest else {
+        return of_two_words(first, second);
+    };
+    let (third, entry) = cut(rest);
+    match entry {
+        None => of_three_words(first, second, third),
+        Some(entry) => of_more_words(first, second, third, entry),
+    }
+}
+
+fn of_one_word<'a>(first: &'a [u8]) -> Option<Form<'a>>
+    ensures { said result ≡ of_one_word first.now }
+{
+    if is_word(first, b"end") {
+        Some(Form::End)
+    } else {
+        None
+    }
+}
+
+fn of_two_words<'a>(first: &'a [u8], second: &'a [u8]) -> Option<Form<'a>>
+    ensures { said result ≡ of_two_words first.now second.now }
+{
+    if is_word(first, b"site") {
+        Some(Form::Site(name_of(second)?))
+    } else if is_word(first, b"show") {
+        Some(Form::Show(name_of(second)?))
+    } else if is_word(first, b"push") {
+        if is_word(second, b"all") {
+            Some(Form::PushAll)
+        } else {
+            None
+        }
+    } else if is_word(first, b"pull") {
+        if is_word(second, b"all") {
+            Some(Form::PullAll)
+        } else {
+            None
+        }
+    } else if is_word(second, b"push") {
+        Some(Form::Push(name_of(first)?, None))
+    } else if is_word(second, b"pull") {
+        Some(Form::Pull(name_of(first)?, None))
+    } else {
+        None
+    }
+}
+
+fn of_three_words<'a>(first: &'a [u8], second: &'a [u8], third: &'a [u8]) -> Option<Form<'a>>
+    ensures { said result ≡ of_three_words first.now second.now third.now }
+{
+    if is_word(first, b"sheet") {
+        sheet_of(read_count(second)?, read_count(third)?)
+    } else if is_word(second, b"push") {
+        Some(Form::Push(name_of(first)?, Some(read_count(third)?)))
+    } else if is_word(second, b"pull") {
+        Some(Form::Pull(name_of(first)?, Some(read_count(third)?)))
+    } else {
+        None
+    }
+}
+
+/// The opening of a sheet, where it is of a size that a sheet may have.
+fn sheet_of<'a>(rows: u32, cols: u32) -> Option<Form<'a>>
+    ensures { said result ≡ sheet_of (Some rows) (Some cols) }
+{
+    if rows <= 1000 && cols <= 64 {
+        Some(Form::Sheet(Size { rows, cols }))
+    } else {
+        None
+    }
+}
+
+fn of_more_words<'a>(
+    first: &'a [u8],
+    second: &'a [u8],
+    third: &'a [u8],
+    entry: &'a [u8],
+) -> Option<Form<'a>>
+    ensures { said result ≡ of_more_words first.now second.now third.now entry.now }
+{
+    if !is_word(second, b"set") {
+        return None;
+    }
+    let name = name_of(first)?;
+    let spot = plain_cell(third)?;
+    if is_number(entry) {
+        Some(Form::Set(name, spot, entry))
+    } else {
+        None
+    }
+}
+
+/// The cell of an address without `$`.
+fn plain_cell(text: &[u8]) -> Option<Spot>
+    ensures { result ≡ plain_cell (cell_of text.now) }
+{
+    let spot = read_cell(text)?;
+    if spot.abs_row || spot.abs_col {
+        None
+    } else {
+        Some(spot)
+    }
+}

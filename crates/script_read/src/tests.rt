@@ -1,0 +1,50 @@
+use crate::read_command;
+use std::test::Fail;
+
+#[test]
+fn lines_and_their_commands(rt: HostRuntime) -> Result<(), Fail> {
+    let table: [(&[u8], &str); 27] = [
+        (b"", "Ok(Note)"),
+        (b"# sheet 1 1", "Ok(Note)"),
+        (b"sheet 1000 64", "Ok(Sheet(Size { rows: 1000, cols: 64 }))"),
+        (b"site a", "Ok(Site(Txt { bytes: [97] }))"),
+        (
+            b"site abcdefghijklmnop",
+            "Ok(Site(Txt { bytes: [97, 98, 99, 100, 101, 102, 103, 104, 105, 106, 107, 108, 109, 110, 111, 112] }))",
+        ),
+        (
+            b"a set b3 -007",
+            "Ok(Edit(Txt { bytes: [97] }, Set(Spot { row: 2, col: 1, abs_row: false, abs_col: false }, Txt { bytes: [45, 48, 48, 55] })))",
+        ),
+        (b"a push", "Ok(Push(Txt { bytes: [97] }, None))"),
+        (
+            b"set push 9999999",
+            "Ok(Push(Txt { bytes: [115, 101, 116] }, Some(9999999)))",
+        ),
+        (b"a pull", "Ok(Pull(Txt { bytes: [97] }, None))"),
+        (b"a pull 7", "Ok(Pull(Txt { bytes: [97] }, Some(7)))"),
+        (b"push all", "Ok(PushAll)"),
+        (b"pull all", "Ok(PullAll)"),
+        (b"show a1", "Ok(Show(Txt { bytes: [97, 49] }))"),
+        (b"end", "Ok(End)"),
+        (b" end", "Err(Grammar)"),
+        (b"end ", "Err(Grammar)"),
+        (b"push  all", "Err(Grammar)"),
+        (b"a push 0", "Err(Grammar)"),
+        (b"a push 07", "Err(Grammar)"),
+        (b"site all", "Err(Grammar)"),
+        (b"site A", "Err(Grammar)"),
+        (b"site abcdefghijklmnopq", "Err(Grammar)"),
+        (b"sheet 1001 1", "Err(Grammar)"),
+        (b"sheet 1 65", "Err(Grammar)"),
+        (b"a set A$1 1", "Err(Grammar)"),
+        (b"a set A1 9223372036854775808", "Err(Grammar)"),
+        (b"# a\ttab", "Err(Grammar)"),
+    ];
+    for (line, answer) in table {
+        let read = read_command(rt.alloc(), line);
+        let told = format!(in rt.alloc(); "{read:?}")?;
+        assert_eq!(rt; told.as_str(), answer);
+    }
+    Ok(())
+}

@@ -1,0 +1,15 @@
+use Rattle.std.proofs.Common.{◌≡◌, ℕ, ◌∙◌, ap, sym, arith}
+use Rattle.std.specs.Prelude.{unwrap_or}
+use Rattle.std.specs.BTreeMap.{BTreeMap}
+use Rattle.sheet_ops.specs.declared.content.Content.{Content}
+use Rattle.sheet_ops.specs.declared.content.Content.TheVariants as content
+use Rattle.sheet_grid.specs.Cells.{kind_of}
+use Rattle.sheet_grid.specs.Rows.{held}
+use Rattle.sheet_grid.proofs.Stored.{cell_read, cols_count}
+use Rattle.sheet_grid.proofs.Sheet.kind.Goals as goal
+
+pub returns : goal.returns
+returns c =
+    let count = cols_count c.self.inside.cols c.self.inside.rows.items c.args.self.now c.self.view_is c.index.result.now c.args.row c.requires.row in
+    let read = cell_read c.self.inside.cols c.self.inside.rows.items c.args.self.now c.self.view_is c.index.result.now c.args.row c.requires.row c.args.col (omega (arith, count)) in
+    c.kind_in.ensures ∙ (ap (λ (m : BTreeMap ℕ Content). kind_of (unwrap_or (held m c.args.col) content.Empty)) c.index.ensures ∙ ap kind_of (sym read))
