@@ -95,7 +95,7 @@ follows_too token.opening x u v some h = tt
 follows_too token.closing x u v some h = tt
 follows_too token.semicolon x u v some h = tt
 
-fits_too : (p : List ℕ) (t : Token) (x u v : List ℕ) → x ≢ [] → Fits p t (x ++ u) → Fits p t (x ++ v)
+pub fits_too : (p : List ℕ) (t : Token) (x u v : List ℕ) → x ≢ [] → Fits p t (x ++ u) → Fits p t (x ++ v)
 fits_too p t x u v some h = (h.0, follows_too t x u v some h.1)
 
 -- spaces at the front of two texts that begin alike: all of the common front, or what is behind them
@@ -186,7 +186,7 @@ abbrev tail_of : Token → List ℕ
 tail_of (token.name n) = 40 ∷ []
 tail_of t = []
 
-last_token : (p : List ℕ) (t : Token) → Fits p t [] → IsNext p t []
+pub last_token : (p : List ℕ) (t : Token) → Fits p t [] → IsNext p t []
 last_token p t h = record {
   fits = h;
   longest = (λ q u r e f. let a = length-append q r in let b = length-append p [] in let c = ap length e in omega arith);
@@ -196,7 +196,7 @@ last_token p t h = record {
     no_bracket : {G : Type 0} → (more : List ℕ) × ([] ≡ 40 ∷ more) → G
     no_bracket (more, e) = absurd (cc)
 
-closed_word : (n : ℕ) (a : Address) → word (name_step n 40) (address_step a 40) ≡ None
+pub closed_word : (n : ℕ) (a : Address) → word (name_step n 40) (address_step a 40) ≡ None
 closed_word n Neither = refl
 closed_word n (Cell Start) = refl
 closed_word n (Cell Dollar) = refl
@@ -268,7 +268,7 @@ length_spaces (b ∷ bs) = by_space (nat_eq b 32) (length_spaces bs)
     by_space true h = omega arith
     by_space false h = omega arith
 
-cut_tight : {at : ℕ} {bs : List ℕ} {ls : List Lexeme} → Lexes at bs ls → past_spaces bs ≡ bs
+pub cut_tight : {at : ℕ} {bs : List ℕ} {ls : List Lexeme} → Lexes at bs ls → past_spaces bs ≡ bs
 cut_tight {at} {bs} {ls} l = by_cut (apart l)
   where
     first : (b : ℕ) (p r : List ℕ) (t : Token) → Fits (b ∷ p) t r → (k : Bool) → nat_eq b 32 ≡ k → nat_eq b 32 ≡ false

@@ -178,18 +178,33 @@ name_ends p n r ((name, _), (more, e)) =
     let (m, a, some, runs) = run_name p name in
     (Word m a, runs, ap (λ (r : List ℕ). kind_at (Word m a) (first_byte r)) e ∙ ap (λ (t : Bool). cond (t && true) (Some kind.Name) (address_kind a)) (lt-ltb 0 m some))
 
-pub complete : (p : List ℕ) (t : Token) (r : List ℕ) → Fits p t r → (k : TokenKind) × Ends p r k
-complete [] (token.numeral n) r h = absurd (let some = h.0.0.0 in omega arith)
-complete (d ∷ ds) (token.numeral n) r ((digits, e, few), _) = (
-  kind.Numeral,
-  (
-    Numeral (digits_value 10 (d ∷ ds)),
-    ap (λ (o : Option Partial). run o ds) (begin_numeral d (is_digit_by_value d digits.1.0)) ∙ numeral_run (0 * 10 + digit_value d) ds digits.1.1 (let value = e in omega arith),
-    refl,
-  ),
+-- a token that is no word
+abbrev pub is_plain : Token → Bool
+is_plain (token.cell c) = false
+is_plain (token.range r) = false
+is_plain (token.name n) = false
+is_plain t = true
+
+pub plain_ends : (p : List ℕ) (t : Token) (r : List ℕ) → is_plain t ≡ true → Fits p t r → Ends p r (kind_of t)
+plain_ends [] (token.numeral n) r _ h = absurd (let some = h.0.0.0 in omega arith)
+plain_ends (d ∷ ds) (token.numeral n) r _ ((digits, e, few), _) = (
+  Numeral (digits_value 10 (d ∷ ds)),
+  ap (λ (o : Option Partial). run o ds) (begin_numeral d (is_digit_by_value d digits.1.0)) ∙ numeral_run (0 * 10 + digit_value d) ds digits.1.1 (let value = e in omega arith),
+  refl,
 )
-complete p (token.text t) r ((e, all), _) = (kind.Text, (Closed, ap (λ (l : List ℕ). run (Some Fresh) l) e ∙ text_run t all, refl))
-complete p (token.fault e) r (h, _) = (kind.Error, (Error e (length (error_name e)), ap (λ (l : List ℕ). run (Some Fresh) l) h ∙ error_run e, error_kind e (first_byte r)))
+plain_ends p (token.text t) r _ ((e, all), _) = (Closed, ap (λ (l : List ℕ). run (Some Fresh) l) e ∙ text_run t all, refl)
+plain_ends p (token.fault e) r _ (h, _) = (Error e (length (error_name e)), ap (λ (l : List ℕ). run (Some Fresh) l) h ∙ error_run e, error_kind e (first_byte r))
+plain_ends p (token.sign op) r _ (h, _) =
+    let (s, runs, ends) = sign_run op in
+    (s, ap (λ (l : List ℕ). run (Some Fresh) l) h ∙ runs, ends (first_byte r))
+plain_ends p token.opening r _ (h, _) = (Whole kind.Open, ap (λ (l : List ℕ). run (Some Fresh) l) h, refl)
+plain_ends p token.closing r _ (h, _) = (Whole kind.Close, ap (λ (l : List ℕ). run (Some Fresh) l) h, refl)
+plain_ends p token.semicolon r _ (h, _) = (Whole kind.Semi, ap (λ (l : List ℕ). run (Some Fresh) l) h, refl)
+plain_ends p (token.cell c) r plain h = absurd (cc)
+plain_ends p (token.range c) r plain h = absurd (cc)
+plain_ends p (token.name c) r plain h = absurd (cc)
+
+pub complete : (p : List ℕ) (t : Token) (r : List ℕ) → Fits p t r → (k : TokenKind) × Ends p r k
 complete p (token.cell c) r (h, _) =
     let (n, m, runs) = run_cell p c h in
     let (k, ends) = whole_word n (Cell (Digits m)) (first_byte r) kind.Cell refl in
@@ -199,12 +214,13 @@ complete p (token.range s) r ((first, last, a, b, e, f, l, _), _) =
     let (k, ends) = whole_word n (Range (Digits m)) (first_byte r) kind.Range refl in
     (k, (Word n (Range (Digits m)), runs, ends))
 complete p (token.name n) r h = (kind.Name, name_ends p n r h)
-complete p (token.sign op) r (h, _) =
-    let (s, runs, ends) = sign_run op in
-    (kind.Sign, (s, ap (λ (l : List ℕ). run (Some Fresh) l) h ∙ runs, ends (first_byte r)))
-complete p token.opening r (h, _) = (kind.Open, (Whole kind.Open, ap (λ (l : List ℕ). run (Some Fresh) l) h, refl))
-complete p token.closing r (h, _) = (kind.Close, (Whole kind.Close, ap (λ (l : List ℕ). run (Some Fresh) l) h, refl))
-complete p token.semicolon r (h, _) = (kind.Semi, (Whole kind.Semi, ap (λ (l : List ℕ). run (Some Fresh) l) h, refl))
+complete p (token.numeral n) r h = (kind.Numeral, plain_ends p (token.numeral n) r refl h)
+complete p (token.text n) r h = (kind.Text, plain_ends p (token.text n) r refl h)
+complete p (token.fault n) r h = (kind.Error, plain_ends p (token.fault n) r refl h)
+complete p (token.sign n) r h = (kind.Sign, plain_ends p (token.sign n) r refl h)
+complete p token.opening r h = (kind.Open, plain_ends p token.opening r refl h)
+complete p token.closing r h = (kind.Close, plain_ends p token.closing r refl h)
+complete p token.semicolon r h = (kind.Semi, plain_ends p token.semicolon r refl h)
 
 -- every front of an address is one's
 corner_ends : (c : Corner) (p : List ℕ) → CornerHolds c p → (y : List ℕ) × (s : Spot) × (cell_of (p ++ y) ≡ Some s)

@@ -164,11 +164,11 @@ lexed_proper (cut.next {piece = piece} {behind = behind} {t = t} n more) = (prop
     proper p token.semicolon r next = tt
 
 -- a formula's text by its tokens
-tokens_read : (bs : List ℕ) → IsFormulaText bs → IsReadToEnd bs
+pub tokens_read : (bs : List ℕ) → IsFormulaText bs → IsReadToEnd bs
 tokens_read bs (t, n, (first, ls, l, e, d)) =
     (first ∷ ls, l, formula_read (tokens_of (first ∷ ls)) (tokens_of ls, (λ i. e i ∷ tokens_of ls), (t, n, d)))
 
-read_tokens : (bs : List ℕ) → IsReadToEnd bs → IsFormulaText bs
+pub read_tokens : (bs : List ℕ) → IsReadToEnd bs → IsFormulaText bs
 read_tokens bs (ls, l, r) = by_tokens ls l (read_is_formula (tokens_of ls) (lexed_proper l) r)
   where
     by_tokens : (ls : List Lexeme) → Lexes 0 bs ls → IsFormula (tokens_of ls) → IsFormulaText bs

@@ -11,3 +11,5 @@ pub mod Cuts
 pub mod Walk
 pub mod Syntax
 pub mod Functions
+pub mod Bytes
+pub mod Fronts

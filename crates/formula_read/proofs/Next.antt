@@ -72,7 +72,7 @@ fits_reached p t r h = let (k, (s, runs, _)) = complete p t r h in (s, runs)
 pub no_empty_token : (t : Token) (r : List ℕ) → Fits [] t r → ⊥
 no_empty_token t r h = let (k, (s, runs, ends)) = complete [] t r h in absurd (let clash : None ≡ Some k = ap (λ (s : Partial). kind_at s (first_byte r)) (same runs) ∙ ends in cc)
 
-name_by_kind : (t : Token) (p n : List ℕ) → kind_of t ≡ kind.Name → Spells p t → n ≡ upper_case p → t ≡ token.name n
+pub name_by_kind : (t : Token) (p n : List ℕ) → kind_of t ≡ kind.Name → Spells p t → n ≡ upper_case p → t ≡ token.name n
 name_by_kind (token.numeral _) p n k h e = absurd (cc)
 name_by_kind (token.text _) p n k h e = absurd (cc)
 name_by_kind (token.fault _) p n k h e = absurd (cc)
@@ -84,7 +84,7 @@ name_by_kind token.opening p n k h e = absurd (cc)
 name_by_kind token.closing p n k h e = absurd (cc)
 name_by_kind token.semicolon p n k h e = absurd (cc)
 
-one_end : (p r : List ℕ) (j k : TokenKind) → Ends p r j → Ends p r k → j ≡ k
+pub one_end : (p r : List ℕ) (j k : TokenKind) → Ends p r j → Ends p r k → j ≡ k
 one_end p r j k (s, runs, ends) (t, also, end) = same (sym ends ∙ (ap (λ (s : Partial). kind_at s (first_byte r)) (same (sym runs ∙ also)) ∙ end))
 
 -- the next token where there is one

@@ -151,7 +151,7 @@ cell_follows (Digits n) b next m = on_test (is_ascii_digit b && nat_lt n 7) _ _ 
     (λ k _. ap (λ (t : Bool). cond t (Range Start) (cell_or_neither (corner_step (Digits n) b))) (digit_is_no_colon b (and_parts _ _ k).0) ∙ ap cell_or_neither m)
     (λ _ m. nothing m)
 
-corner_next : (c : Corner) (b : ℕ) (bs : List ℕ) (last : Corner) → corner_run (Some c) (b ∷ bs) ≡ Some last → (next : Corner) × (corner_step c b ≡ Some next) × (corner_run (Some next) bs ≡ Some last)
+pub corner_next : (c : Corner) (b : ℕ) (bs : List ℕ) (last : Corner) → corner_run (Some c) (b ∷ bs) ≡ Some last → (next : Corner) × (corner_step c b ≡ Some next) × (corner_run (Some next) bs ≡ Some last)
 corner_next c b bs last h = by_step (corner_step c b) refl h
   where
     by_step : (o : Option Corner) → corner_step c b ≡ o → corner_run o bs ≡ Some last → (next : Corner) × (corner_step c b ≡ Some next) × (corner_run (Some next) bs ≡ Some last)

@@ -2,3 +2,4 @@ pub mod Partial
 pub mod Longest
 pub mod Read
 pub mod Places
+pub mod Reading
