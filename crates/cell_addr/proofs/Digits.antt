@@ -1,11 +1,10 @@
 -- digits one by one
-use Rattle.std.proofs.Common.{◌≡◌, ℕ, Bool, false, ◌&&◌, nat_le, refl, zero-add, ◌+◌, ◌-◌, ◌*◌, ◌^◌, ◌<◌, ◌≤◌, true, List, [], ◌∷◌, length, take, drop, get_or, rules, arith, sym}
+use Rattle.std.proofs.Common.{◌≡◌, ℕ, Bool, false, ◌&&◌, nat_le, refl, zero-add, ◌+◌, ◌-◌, ◌*◌, ◌^◌, ◌<◌, ◌≤◌, true, List, [], ◌∷◌, length, take, get_or, rules, arith}
 use Rattle.std.specs.Char.{is_ascii_digit, digit_value}
 use Rattle.std.specs.Int.{IsInRange, is_in_range}
 use Rattle.std.specs.List.{list_all}
 use Rattle.std.specs.Str.Parse.{digits_value, digits_value_after}
 use Rattle.std.proofs.lemmas.Bool.Decides.{nat_tests}
-use Rattle.std.proofs.lemmas.Grind.{common_steps}
 use Rattle.std.proofs.lemmas.Int.Digits.{digits_value_more}
 use Rattle.std.proofs.lemmas.Str.Parse.{IsNumeralModel, digits_value_short, numerals_by_value, digits_value-take-le, digit_at}
 use Rattle.cell_addr.specs.Rows.{is_count}
@@ -16,18 +15,19 @@ digits_model = numerals_by_value _ (search rules)
 digit_value-digit : (b : ℕ) → IsInRange 48 57 b → digit_value b ≡ b - 48
 digit_value-digit b h = grind (arith, nat_tests)
 
-module _ (ds : List ℕ) (i : ℕ) (v : ℕ) (digits : list_all is_ascii_digit ds ≡ true) (within : i < length ds) (value : v ≡ digits_value 10 (take i ds)) where
+-- the digit at an index, and the number of the digits up to it
+module _ (ds : List ℕ) (i : ℕ) (digits : list_all is_ascii_digit ds ≡ true) (within : i < length ds) where
   pub digit_is : IsInRange 48 57 (get_or ds i 0)
   digit_is = digit_at ds i (digits_model.to ds digits) within
 
-  pub digit_more : v * 10 + (get_or ds i 0 - 48) ≡ digits_value 10 (take (i + 1) ds)
-  digit_more = rw (value, ← digit_value-digit (get_or ds i 0) digit_is) (sym (digits_value_more 10 ds i within))
+  pub digit_more : digits_value 10 (take (i + 1) ds) ≡ digits_value 10 (take i ds) * 10 + (get_or ds i 0 - 48)
+  digit_more = rw (← digit_value-digit (get_or ds i 0) digit_is) (digits_value_more 10 ds i within)
 
-  pub digit_below : length ds ≤ 9 → v * 10 + (get_or ds i 0 - 48) < 10 ^ 9
-  digit_below few =
-      let part = digits_value-take-le 10 ds (i + 1) (omega arith) in
-      let whole = digits_value_short digits_model ds 9 digits few in
-      omega (arith, digit_more, part, whole)
+  pub front_below : digits_value 10 (take i ds) * 10 + (get_or ds i 0 - 48) ≤ digits_value 10 ds
+  front_below = rw (← digit_more) (digits_value-take-le 10 ds (i + 1) (omega arith))
+
+  pub digit_below : length ds ≤ 9 → digits_value 10 (take i ds) * 10 + (get_or ds i 0 - 48) < 10 ^ 9
+  digit_below few = omega (arith, front_below, digits_value_short digits_model ds 9 digits few)
 
 -- more digits make no number less
 after_ge : (n : ℕ) (ds : List ℕ) → n ≤ digits_value_after 10 n ds
@@ -62,6 +62,3 @@ pub count_size : (text : List ℕ) → is_count text ≡ true → (1 ≤ digits_
 count_size text h =
     let whole = digits_value_short digits_model text 7 (count_digits text h) (count_length text h) in
     ((count_parts text h).2, omega (arith, whole))
-
-pub rest_is : (text : List ℕ) (k : ℕ) → take (length text - k) (drop k text) ≡ drop k text
-rest_is text k = grind (arith, common_steps)

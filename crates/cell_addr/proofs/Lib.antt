@@ -1,3 +1,4 @@
 pub mod Digits
 pub mod Letters
 pub mod Addresses
+pub mod Slices

@@ -1,4 +1,4 @@
--- The grammar of formulas, after OpenFormula ("Basic Limits" and "Syntax" of part 4 of OpenDocument 1.3) in this profile.
+-- The grammar of formulas, after OpenFormula ("Expression Syntax" of part 4 of OpenDocument 1.3) in this profile.
 use Rattle.std.specs.Prelude.{ℕ, suc, ◌≡◌, pos, max, List, [], ◌∷◌, ◌++◌, map}
 use Rattle.ss_base.specs.declared.types.Spot.{Spot}
 use Rattle.ss_base.specs.declared.types.Span.{Span}

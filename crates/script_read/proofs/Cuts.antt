@@ -1,10 +1,9 @@
 -- a text and its first word
-use Rattle.std.proofs.Common.{◌≡◌, ℕ, Bool, true, false, cond, ◌+◌, ◌-◌, ◌≤◌, ◌<◌, List, [], ◌∷◌, length, take, drop, nat_lt, refl, ◌∙◌, ap, arith, Some, None}
+use Rattle.std.proofs.Common.{◌≡◌, ℕ, Bool, true, false, cond, ◌+◌, ◌≤◌, ◌<◌, List, [], ◌∷◌, length, take, drop, nat_lt, refl, ◌∙◌, ap, arith, Some, None}
 use Rattle.std.specs.List.{slice_split, position_or_len, join_with_byte}
 use Rattle.std.specs.Prelude.{position}
 use Rattle.std.proofs.lemmas.Bool.{ltb-true}
 use Rattle.std.proofs.lemmas.Bool.Decides.{nat_tests}
-use Rattle.std.proofs.lemmas.List.{take_all, length-drop}
 use Rattle.std.proofs.lemmas.List.Splits.{slice_split_first, length-slice_split, join_with_byte-slice_split}
 use Rattle.script_read.specs.Commands.{of_words, of_more_words}
 use Rattle.script_read.specs.Words.{is_space, words}
@@ -35,9 +34,6 @@ pub words_cut : (text : List ℕ) (k : ℕ) → position is_space text ≡ Some 
 words_cut text k h =
     let (e, within) = some_by text k (nat_lt (position_or_len is_space text) (length text)) refl h in
     rw e at (slice_split_first is_space text 0 within)
-
-pub rest_is : (text : List ℕ) (k : ℕ) → take (length text - k) (drop k text) ≡ drop k text
-rest_is text k = take_all (length text - k) (drop k text) (simp length-drop (omega arith))
 
 -- a line of more than three words: its entry is what stands behind the third
 more_by : (a b c entry : List ℕ) (ws : List (List ℕ)) → words entry ≡ ws → of_words (a ∷ b ∷ c ∷ ws) ≡ of_more_words a b c (join_with_byte 32 ws)

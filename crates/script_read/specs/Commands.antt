@@ -39,9 +39,11 @@ set_of (Some name) (Some spot) entry =
     if is_some (number_of entry) then Some (command.Edit name (edit.Set spot entry)) else None
 set_of _ _ _ = None
 
+-- the lines of one word: `end`
 abbrev pub of_one_word : List ℕ → Option Command
 of_one_word first = if bytes_eq first (codes "end") then Some command.End else None
 
+-- of two: `site NAME`, `show NAME`, `push all`, `pull all`, `NAME push`, `NAME pull`
 abbrev pub of_two_words : List ℕ → List ℕ → Option Command
 of_two_words first second =
     if bytes_eq first (codes "site") then option_map command.Site (named second)
@@ -52,6 +54,7 @@ of_two_words first second =
     else if bytes_eq second (codes "pull") then option_map (λ name. command.Pull name None) (named first)
     else None
 
+-- of three: `sheet COUNT COUNT`, `NAME push COUNT`, `NAME pull COUNT`
 abbrev pub of_three_words : List ℕ → List ℕ → List ℕ → Option Command
 of_three_words first second third =
     if bytes_eq first (codes "sheet") then sheet_of (counted second) (counted third)
@@ -59,7 +62,7 @@ of_three_words first second third =
     else if bytes_eq second (codes "pull") then pull_of (named first) (counted third)
     else None
 
--- the entry is the rest of the line, spaces included
+-- of more: `NAME set CELL ENTRY`, the entry being the rest of the line, spaces included
 abbrev pub of_more_words : List ℕ → List ℕ → List ℕ → List ℕ → Option Command
 of_more_words first second third entry =
     if bytes_eq second (codes "set") then set_of (named first) (plain_cell (cell_of third)) entry else None

@@ -1,2 +1,4 @@
 pub mod Stored
 pub mod Unmarked
+pub mod Read
+pub mod Done

@@ -1,6 +1,6 @@
 -- Lines of which none is marked.
 use Rattle.std.proofs.Common.{◌≡◌, ℕ, zero, suc, ◌+◌, ◌<◌, ◌≤◌, Bool, true, false, List, length, refl, ap, sym, ◌∙◌, arith}
-use Rattle.std.specs.Prelude.{replicate, take, ◌∷◌, slice_get, slice_index_or, Option, Some, None}
+use Rattle.std.specs.Prelude.{replicate, take, ◌∷◌, slice_get, slice_index_or, Some, None}
 use Rattle.sheet_grid.specs.Cells.{visible_index}
 use Rattle.sheet_ops.specs.Lines.{visible_from, visible_places}
 

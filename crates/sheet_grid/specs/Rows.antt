@@ -1,5 +1,5 @@
 -- How a sheet keeps its cells: for each row a map from columns to contents, in which an empty cell has no key.
-use Rattle.std.specs.Prelude.{◌≡◌, ◌≢◌, ◌<◌, ◌≤◌, ℕ, zero, suc, nat_eq, if◌then◌else◌, false, List, [], ◌∷◌, length, map, replicate, slice_index_or, slice_set, unwrap_or, Option, None, Some}
+use Rattle.std.specs.Prelude.{◌≡◌, ◌≢◌, ◌<◌, ◌≤◌, ℕ, zero, suc, nat_eq, if◌then◌else◌, false, List, [], ◌∷◌, length, map, replicate, slice_index_or, unwrap_or, Option, None, Some}
 use Rattle.std.specs.Ordering.{nat_cmp}
 use Rattle.std.specs.BTreeMap.{BTreeMap, get}
 use Rattle.sheet_ops.specs.declared.content.Content.{Content}

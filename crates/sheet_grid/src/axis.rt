@@ -1,4 +1,4 @@
-ghost use Rattle.std.specs.Prelude.{◌≡◌, false, replicate, slice_get};
+ghost use Rattle.std.specs.Prelude.{◌≡◌, ◌<◌, false, replicate, slice_get, IfSome};
 ghost use Rattle.sheet_ops.specs.Lines.{visible_places};
 ghost use Rattle.sheet_grid.specs.Cells.{visible_index};
 
@@ -11,7 +11,8 @@ pub fn line_at(count: u32, visible: u32) -> Option<u32>
 
 /// The visible index of the line at this position, of so many lines of which none is marked.
 pub fn line_seen(count: u32, place: u32) -> Option<u32>
-    ensures { result ≡ visible_index (replicate count false) place }
+    ensures index { result ≡ visible_index (replicate count false) place }
+    ensures within { IfSome result (λ visible. visible < count) }
 {
     if place < count { Some(place) } else { None }
 }

@@ -32,7 +32,7 @@ pub enum Kind {
 
 /// A sheet, which contracts see by positions: per row and per column whether it is marked, and the
 /// contents row by row. It keeps a map for each row, in which an empty cell has no key.
-#[derive(Drop)]
+#[derive(Debug, Drop)]
 pub struct Sheet {
     rows: Vec<BTreeMap<u32, Content>>,
     cols: u32,
@@ -109,7 +109,8 @@ impl Sheet {
     /// The visible index of the column at this position, and `None` exactly where it is hidden or
     /// isn't there.
     pub fn col_seen(&self, col: u32) -> Option<u32>
-        ensures { result ≡ visible_index self.now.cols col }
+        ensures index { result ≡ visible_index self.now.cols col }
+        ensures few { IfSome result (λ visible. visible < 16000) }
     {
         line_seen(self.cols, col)
     }
@@ -130,6 +131,7 @@ impl Sheet {
         requires row { row < length self.now.rows }
         ensures within { IfSome result (λ c. (from ≤ c) × (c < length self.now.cols) × (cell_at self.now row c ≢ content.Empty)) }
         ensures first { IfSome result (λ c. (k : ℕ) → from ≤ k → k < c → cell_at self.now row k ≡ content.Empty) }
+        ensures few { IfSome result (λ c. c < 16000) }
         ensures none { IfNone result ((k : ℕ) → from ≤ k → k < length self.now.cols → cell_at self.now row k ≡ content.Empty) }
     {
         filled_from(&self.rows[row as usize], from)

@@ -44,7 +44,11 @@ pub fn filled_from(row: &BTreeMap<u32, Content>, from: u32) -> Option<u32>
 
 /// Puts a content under the key of a column, an empty one too, and answers what stood there. A
 /// refused call leaves the row.
-pub fn store(row: &mut BTreeMap<u32, Content>, col: u32, what: Content) -> Result<Option<Content>, Memory>
+pub fn store(
+    row: &mut BTreeMap<u32, Content>,
+    col: u32,
+    what: Content,
+) -> Result<Option<Content>, Memory>
     ensures old { IfOk result (λ old. old ≡ held row.old col) }
     ensures ok { IfOk result (λ old. held row.new ≡ with_cell (held row.old) col (Some what)) }
     ensures err { OnErr result (held row.new ≡ held row.old) }

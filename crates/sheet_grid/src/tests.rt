@@ -24,7 +24,14 @@ fn write(alloc: Global, first: Put, second: Put) -> Result<Effect, Memory>
 }
 
 /// The cells A1 and B2 of a sheet of two rows and two columns, and the first filled column of each row.
-fn shows(rt: &impl Abort, sheet: &Sheet, a1: Kind, b2: Kind, first: Option<u32>, second: Option<u32>) {
+fn shows(
+    rt: &impl Abort,
+    sheet: &Sheet,
+    a1: Kind,
+    b2: Kind,
+    first: Option<u32>,
+    second: Option<u32>,
+) {
     assert_eq!(rt; sheet.visible(), Size { rows: 2, cols: 2 });
     assert_eq!(rt; sheet.size(), Size { rows: 2, cols: 2 });
     assert_eq!(rt; sheet.kind(0, 0), a1);
@@ -38,7 +45,11 @@ fn writes_and_reads(rt: HostRuntime) -> Result<(), Fail> {
     let alloc = rt.alloc();
     let mut sheet = Sheet::new(alloc, Size { rows: 2, cols: 2 })?;
     shows(&rt, &sheet, Kind::Empty, Kind::Empty, None, None);
-    sheet.apply(&write(alloc, put(0, 0, Content::Num(7)), put(1, 1, Content::Num(-3)))?)?;
+    sheet.apply(&write(
+        alloc,
+        put(0, 0, Content::Num(7)),
+        put(1, 1, Content::Num(-3)),
+    )?)?;
     shows(&rt, &sheet, Kind::Num(7), Kind::Num(-3), Some(0), Some(1));
     sheet.apply(&write(alloc, put(1, 1, Content::Num(4)), put(0, 0, Content::Empty))?)?;
     shows(&rt, &sheet, Kind::Empty, Kind::Num(4), None, Some(1));

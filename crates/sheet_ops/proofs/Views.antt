@@ -104,12 +104,12 @@ module _ (size : Size) where
             (λ i. acts (before i) (meant i))
             ∙ (ap with_cells (sym (puts_at-append (λ _ _. blank) front (puts_of g.intent)))
             ∙ ap after_puts (
-                append_assoc (written (take taken H)) (written (left H site taken (reverse G))) (puts_of g.intent)
-                ∙ ap (λ (ps : List Put). written (take taken H) ++ ps) (
-                    ap (λ (ps : List Put). written (left H site taken (reverse G)) ++ ps) (sym (append-nil (puts_of g.intent)))
-                    ∙ (sym (written-append (left H site taken (reverse G)) (g ∷ []))
-                    ∙ ap written (sym (ap (drop (held H site taken)) last ∙ drop_behind (held H site taken) (reverse G) (g ∷ []) many)))
-                )
+            append_assoc (written (take taken H)) (written (left H site taken (reverse G))) (puts_of g.intent)
+            ∙ ap (λ (ps : List Put). written (take taken H) ++ ps) (
+            ap (λ (ps : List Put). written (left H site taken (reverse G)) ++ ps) (sym (append-nil (puts_of g.intent)))
+            ∙ (sym (written-append (left H site taken (reverse G)) (g ∷ []))
+            ∙ ap written (sym (ap (drop (held H site taken)) last ∙ drop_behind (held H site taken) (reverse G) (g ∷ []) many)))
+            )
             ))
 
   -- each entry means what it means on the opening sheet

@@ -1,8 +1,8 @@
 -- Writes that pending ones cover.
-use Rattle.std.proofs.Common.{◌≡◌, ℕ, suc, ◌+◌, ◌<◌, ◌≤◌, Bool, true, false, cond, List, [], ◌∷◌, ◌++◌, length, take, get_or, refl, ap, sym, ◌∙◌, arith, inl, inr}
-use Rattle.std.specs.Prelude.{◌||◌, ◌⊎◌, not, filter}
+use Rattle.std.proofs.Common.{◌≡◌, ℕ, suc, ◌+◌, ◌<◌, ◌≤◌, Bool, true, false, cond, List, [], ◌∷◌, ◌++◌, length, take, get_or, refl, ap, sym, ◌∙◌, arith}
+use Rattle.std.specs.Prelude.{◌||◌, not}
 use Rattle.std.specs.List.{list_any}
-use Rattle.std.proofs.lemmas.List.{take_more, append-nil}
+use Rattle.std.proofs.lemmas.List.{take_more}
 use Rattle.std.proofs.lemmas.List.Elements.{filter-append}
 use Rattle.std.proofs.lemmas.List.Folds.{list_any-append}
 use Rattle.ss_base.specs.declared.types.Size.{Size}
@@ -14,7 +14,6 @@ use Rattle.sheet_ops.specs.Naming.{effect_of_intent}
 use Rattle.sheet_ops.specs.Fits.{writes_cell, same_cell, PutsFit, EffectFits}
 use Rattle.sheetshare.specs.Replicas.{effect_past}
 use Rattle.sheet_ops.specs.Effects.{puts_of, written, uncovered}
-use Rattle.sheet_ops.proofs.Ids.{true_or_false}
 
 -- entry by entry or all their writes together
 pub writes_cell-written : (es : List Entry) (q : Put) → list_any (λ e. writes_cell (puts_of e.intent) q) es ≡ writes_cell (written es) q

@@ -1,15 +1,13 @@
 -- Entries of a history, and parts of lists.
-use Rattle.std.proofs.Common.{◌≡◌, ◌≢◌, ℕ, zero, suc, ◌+◌, ◌-◌, ◌<◌, ◌≤◌, Bool, true, false, cond, List, [], ◌∷◌, ◌++◌, length, take, drop, refl, ap, sym, ◌∙◌, arith, Some, None, Option}
-use Rattle.std.specs.Prelude.{nat_eq, filter, slice_get, sum_by, map, slice_set}
-use Rattle.std.proofs.lemmas.List.{append-nil, take_more, length-append}
+use Rattle.std.proofs.Common.{◌≡◌, ◌≢◌, ℕ, zero, suc, ◌<◌, ◌≤◌, true, false, List, [], ◌∷◌, ◌++◌, length, take, drop, refl, ap, arith, Some}
+use Rattle.std.specs.Prelude.{nat_eq, slice_get}
 use Rattle.std.proofs.lemmas.List.Elements.{filter-append}
 use Rattle.std.proofs.lemmas.Bool.Decides.{nat_tests}
 use Rattle.ss_base.specs.declared.types.Size.{Size}
 use Rattle.sheet_ops.specs.declared.operation.Entry.{Entry}
-use Rattle.sheet_ops.specs.declared.content.Put.{Put}
 use Rattle.sheet_ops.specs.declared.operation.Intent.{Intent}
 use Rattle.sheet_ops.specs.declared.operation.Intent.TheVariants as intent
-use Rattle.sheet_ops.specs.Fits.{IntentFits, PutsFit}
+use Rattle.sheet_ops.specs.Fits.{IntentFits}
 use Rattle.sheet_ops.specs.History.{own_entries}
 use Rattle.sheet_ops.specs.Effects.{puts_of, written}
 use Rattle.sheet_ops.proofs.Written.{AllInside, AllInside-fit, AllInside-append}

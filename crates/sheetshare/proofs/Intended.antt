@@ -1,6 +1,6 @@
 -- What an edit denotes fits the sheet on which it was made.
-use Rattle.std.proofs.Common.{◌≡◌, ℕ, zero, suc, ◌+◌, ◌<◌, ◌≤◌, Bool, true, false, cond, List, [], ◌∷◌, length, refl, ap, sym, ◌∙◌, subst, arith, Some, None, Option, Ok, Err}
-use Rattle.std.specs.Prelude.{nat_lt, slice_get, sum_by, Result}
+use Rattle.std.proofs.Common.{◌≡◌, ℕ, zero, suc, ◌+◌, ◌<◌, ◌≤◌, Bool, true, false, cond, List, [], ◌∷◌, length, refl, subst, arith, Some, None, Option, Ok, Err}
+use Rattle.std.specs.Prelude.{nat_lt, slice_get, Result}
 use Rattle.std.proofs.lemmas.Bool.Decides.{nat_tests}
 use Rattle.std.proofs.lemmas.List.Sums.{sum_by-cons}
 use Rattle.sheet_ops.specs.declared.content.Content.{Content}
@@ -68,3 +68,12 @@ not_spent n op h = by_test (nat_lt n 1000) (let k : nat_lt n 1000 ≡ true = gri
     by_test : (b : Bool) → b ≡ true → cond b (Ok op) (Err fault.Spent) ≡ Ok op
     by_test true k = refl
     by_test false k = absurd (cc)
+
+-- an edit that is accepted
+pub accepted : (n : ℕ) (x : Result Intent EditErr) (op : Intent) → unless_spent n x ≡ Ok op → (x ≡ Ok op) × (n < 1000)
+accepted n (Err e) op h = absurd (cc)
+accepted n (Ok op') op h = by_test (nat_lt n 1000) refl h
+  where
+    by_test : (b : Bool) → nat_lt n 1000 ≡ b → ◌≡◌ {A = Result Intent EditErr} (cond b (Ok op') (Err fault.Spent)) (Ok op) → (◌≡◌ {A = Result Intent EditErr} (Ok op') (Ok op)) × (n < 1000)
+    by_test true k e = (e, grind (arith, nat_tests))
+    by_test false k e = absurd (cc)

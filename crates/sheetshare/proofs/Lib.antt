@@ -4,3 +4,6 @@ pub mod Standing
 pub mod Steps
 pub mod Outcomes
 pub mod Intended
+pub mod Worlds
+pub mod Declared
+pub mod Playing

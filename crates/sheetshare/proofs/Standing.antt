@@ -1,29 +1,26 @@
 -- What a replica stands for, step by step.
-use Rattle.std.proofs.Common.{◌≡◌, ◌≢◌, ℕ, zero, suc, ◌+◌, ◌-◌, ◌<◌, ◌≤◌, Bool, true, false, cond, List, [], ◌∷◌, ◌++◌, length, take, drop, refl, ap, sym, ◌∙◌, subst, arith, append_assoc, Some, None, Option, inl, inr}
-use Rattle.std.specs.Prelude.{nat_eq, slice_get, ◌⊎◌, map}
+use Rattle.std.proofs.Common.{◌≡◌, ◌≢◌, ℕ, zero, suc, ◌+◌, ◌<◌, ◌≤◌, Bool, true, false, cond, List, [], ◌∷◌, ◌++◌, length, take, drop, refl, ap, sym, ◌∙◌, subst, arith, append_assoc, Some}
+use Rattle.std.specs.Prelude.{nat_eq, slice_get}
 use Rattle.std.proofs.lemmas.List.{append-nil, length-append, length-map}
-use Rattle.std.proofs.lemmas.Bool.Decides.{nat_tests}
 use Rattle.ss_base.specs.declared.types.Size.{Size}
-use Rattle.ss_base.specs.declared.types.Site.{Site}
 use Rattle.sheet_ops.specs.declared.content.Content.{Content}
 use Rattle.sheet_ops.specs.declared.content.Put.{Put}
 use Rattle.sheet_ops.specs.declared.operation.Entry.{Entry}
 use Rattle.sheet_ops.specs.declared.operation.Intent.{Intent}
 use Rattle.sheet_ops.specs.declared.operation.Intent.TheVariants as intent
 use Rattle.sheet_ops.specs.declared.operation.Effect.TheVariants as effect
-use Rattle.sheet_ops.specs.Fits.{IntentFits, EffectFits}
+use Rattle.sheet_ops.specs.Fits.{IntentFits}
 use Rattle.sheet_ops.specs.Naming.{effect_of_intent}
 use Rattle.sheet_ops.specs.Identity.{opened}
-use Rattle.sheet_ops.specs.Placed.{PlacedSheet, placed, placed_size, size_of}
+use Rattle.sheet_ops.specs.Placed.{PlacedSheet, placed, placed_size}
 use Rattle.sheet_ops.specs.History.{own_entries, view}
 use Rattle.sheet_ops.specs.Effects.{effect_on, cells_written, puts_of, written, uncovered, written_sheet}
 use Rattle.sheet_ops.proofs.Overwritten.{cells_written-past, cells_written-append}
 use Rattle.sheet_ops.proofs.Views.{written-append, placed-view, opened_size, drop_behind}
-use Rattle.sheet_ops.proofs.Ids.{true_or_false, same_number}
 use Rattle.sheetshare.specs.declared.replica.Replica.{Replica}
 use Rattle.sheetshare.specs.Replicas.{pending, entry_of, issued_by, effect_past, taken_by}
 use Rattle.sheetshare.specs.Runs.{EachFits, EachOf, Represents}
-use Rattle.sheetshare.proofs.Entries.{take-append-short, drop-take-append, drop-at, take-at, within-at, front_next, own_entries-append, own_entries-all, own_entries-none, EachOf-append, EachOf-at, EachFits-append, EachFits-at, inside_both}
+use Rattle.sheetshare.proofs.Entries.{take-append-short, drop-take-append, drop-at, take-at, within-at, front_next, own_entries-append, own_entries-all, own_entries-none, EachOf-append, EachOf-at, EachFits-append, inside_both}
 
 -- more writes behind the first
 written_sheet-append : (size : Size) (ps : List Put) (op : Intent) → written_sheet size (ps ++ puts_of op) ≡ effect_on (written_sheet size ps) (effect_of_intent op)
@@ -34,10 +31,10 @@ written_sheet-past : (size : Size) (ps own : List Put) (op : Intent) → written
 written_sheet-past size ps own (intent.Write qs) =
     let rows = (placed (opened size)).cells in
     ap (λ (cells : List (List Content)). record (placed (opened size)) { cells = cells }) (
-      cells_written-append rows (ps ++ qs) own
-      ∙ (ap (λ (m : List (List Content)). cells_written m own) (cells_written-append rows ps qs)
-      ∙ (cells_written-past own qs (cells_written rows ps)
-      ∙ ap (λ (m : List (List Content)). cells_written m (uncovered own qs)) (sym (cells_written-append rows ps own))))
+    cells_written-append rows (ps ++ qs) own
+    ∙ (ap (λ (m : List (List Content)). cells_written m own) (cells_written-append rows ps qs)
+    ∙ (cells_written-past own qs (cells_written rows ps)
+    ∙ ap (λ (m : List (List Content)). cells_written m (uncovered own qs)) (sym (cells_written-append rows ps own))))
     )
 
 pub written_sheet-size : (size : Size) (ps : List Put) → placed_size (written_sheet size ps) ≡ size
@@ -82,12 +79,12 @@ module _ (size : Size) (H : List Entry) (site : ℕ) (r : Replica) (s : Represen
     sheet = ap (λ (P : PlacedSheet). effect_on P (effect_of_intent op)) s.sheet
         ∙ (sym (written_sheet-append size (written (take r.taken H) ++ written (drop r.acknowledged r.made)) op)
         ∙ ap (written_sheet size) (
-            append_assoc (written (take r.taken H)) (written (drop r.acknowledged r.made)) (puts_of op)
-            ∙ ap (λ (ps : List Put). written (take r.taken H) ++ ps) (
-                ap (λ (ps : List Put). written (drop r.acknowledged r.made) ++ ps) (sym (append-nil (puts_of op)))
-                ∙ (sym (written-append (drop r.acknowledged r.made) (entry op ∷ []))
-                ∙ ap written (sym (drop_behind size r.acknowledged r.made (entry op ∷ []) held_le)))
-            )
+        append_assoc (written (take r.taken H)) (written (drop r.acknowledged r.made)) (puts_of op)
+        ∙ ap (λ (ps : List Put). written (take r.taken H) ++ ps) (
+        ap (λ (ps : List Put). written (drop r.acknowledged r.made) ++ ps) (sym (append-nil (puts_of op)))
+        ∙ (sym (written-append (drop r.acknowledged r.made) (entry op ∷ []))
+        ∙ ap written (sym (drop_behind size r.acknowledged r.made (entry op ∷ []) held_le)))
+        )
         ));
   }
 
@@ -108,7 +105,7 @@ module _ (size : Size) (H : List Entry) (site : ℕ) (r : Replica) (s : Represen
         let rest = own_entries site (drop (suc r.taken) H) in
         let split : take r.pushed r.made ≡ own_entries site (take r.taken H) ++ e ∷ rest =
         sym s.mine ∙ (ap (own_entries site) (sym (drop-take-append r.taken H) ∙ ap (λ (es : List Entry). take r.taken H ++ es) (drop-at H r.taken e at))
-            ∙ (own_entries-append site (take r.taken H) (e ∷ drop (suc r.taken) H) ∙ ap (λ b. own_entries site (take r.taken H) ++ cond b (e ∷ rest) rest) own)) in
+        ∙ (own_entries-append site (take r.taken H) (e ∷ drop (suc r.taken) H) ∙ ap (λ b. own_entries site (take r.taken H) ++ cond b (e ∷ rest) rest) own)) in
         subst (λ (n : ℕ). drop n r.made ≡ e ∷ drop (suc n) r.made) (sym s.acknowledged) (front_next r.pushed r.made (own_entries site (take r.taken H)) e rest split)
 
     by_site : (b : Bool) → nat_eq e.site.0 site ≡ b →
@@ -129,9 +126,9 @@ module _ (size : Size) (H : List Entry) (site : ℕ) (r : Replica) (s : Represen
           let next : suc r.taken ≡ r.taken + 1 = omega arith in
           let after : suc r.acknowledged ≡ r.acknowledged + 1 = omega arith in
           s.sheet ∙ (ap (written_sheet size) (
-              ap (λ (es : List Entry). written (take r.taken H) ++ written es) (next_own own)
-              ∙ (sym (append_assoc (written (take r.taken H)) (puts_of e.intent) (written (drop (suc r.acknowledged) r.made)))
-              ∙ ap (λ (ps : List Put). ps ++ written (drop (suc r.acknowledged) r.made)) (sym written_more))
+          ap (λ (es : List Entry). written (take r.taken H) ++ written es) (next_own own)
+          ∙ (sym (append_assoc (written (take r.taken H)) (puts_of e.intent) (written (drop (suc r.acknowledged) r.made)))
+          ∙ ap (λ (ps : List Put). ps ++ written (drop (suc r.acknowledged) r.made)) (sym written_more))
           ) ∙ (λ i. written_sheet size (written (take (next i) H) ++ written (drop (after i) r.made))));
     }
     by_site false other = record {

@@ -1,11 +1,10 @@
 -- One replica of a run changed, and the state that the run then has.
-use Rattle.std.proofs.Common.{◌≡◌, ◌≢◌, ℕ, zero, suc, ◌+◌, ◌-◌, ◌*◌, ◌<◌, ◌≤◌, Bool, true, false, cond, List, [], ◌∷◌, ◌++◌, length, take, drop, refl, ap, sym, ◌∙◌, subst, arith, Some, None, Option, Ok, Err, min}
-use Rattle.std.specs.Prelude.{nat_eq, slice_get, slice_set, slice_index_or, map, sum_by, Result}
+use Rattle.std.proofs.Common.{◌≡◌, ℕ, zero, suc, ◌+◌, ◌-◌, ◌*◌, ◌<◌, ◌≤◌, Bool, true, false, cond, List, [], ◌∷◌, ◌++◌, length, take, drop, refl, ap, sym, ◌∙◌, subst, arith, Some, None, Ok, min}
+use Rattle.std.specs.Prelude.{nat_eq, slice_get, slice_set, slice_index_or, map, sum_by, Result, OnOk, OnErr}
 use Rattle.std.proofs.lemmas.List.{length-append}
 use Rattle.std.proofs.lemmas.List.Sums.{sum_by-cons}
 use Rattle.ss_base.specs.declared.types.Size.{Size}
 use Rattle.sheet_ops.specs.declared.edit.Edit.{Edit}
-use Rattle.sheet_ops.specs.declared.edit.Edit.TheVariants as edit
 use Rattle.sheet_ops.specs.declared.edit.EditErr.{EditErr}
 use Rattle.sheet_ops.specs.declared.operation.Entry.{Entry}
 use Rattle.sheet_ops.specs.declared.operation.Intent.{Intent}
@@ -15,12 +14,19 @@ use Rattle.sheet_ops.specs.Naming.{effect_of_intent}
 use Rattle.sheet_ops.specs.Placed.{PlacedSheet, placed, placed_size}
 use Rattle.sheet_ops.specs.History.{view, own_entries, operations}
 use Rattle.sheet_ops.specs.Edits.{intended, intended_by}
-use Rattle.sheet_ops.specs.Effects.{puts_of}
 use Rattle.sheetshare.specs.declared.replica.Replica.{Replica}
 use Rattle.sheetshare.specs.Replicas as replica
-use Rattle.sheetshare.specs.Runs.{EachFits, EachOf, Represents, EachRepresents, IsRun, seat_of, world_of}
-use Rattle.sheetshare.specs.World.{Seat, World, new_seat, seat_at, put_seat, view_at, pending_at, unless_spent, decided, after_decided, pushed, pulled}
+use Rattle.sheetshare.specs.Runs.{EachOf, Represents, EachRepresents, IsRun, seat_of, world_of}
+use Rattle.sheetshare.specs.World.{Seat, new_seat, seat_at, put_seat, view_at, pending_at, unless_spent, decided, after_decided, pushed, pulled}
 use Rattle.sheetshare.proofs.Entries.{EachFits-append, EachFits-at, EachOf-at, within-at, drop-at}
+use Rattle.ss_base.specs.declared.types.Site.{Site}
+use Rattle.sheet_ops.specs.Identity.{opened}
+use Rattle.sheet_ops.specs.Shown.{shown, shown_placed}
+use Rattle.sheet_ops.proofs.Seen.{shown-placed}
+use Rattle.sheet_text.specs.Texts.{sheet_text, head_text}
+use Rattle.sheetshare.specs.Transcript.{show_text}
+use Rattle.sheetshare.proofs.Intended.{accepted, intended-fits, operations-length}
+use Rattle.sheetshare.proofs.Outcomes.{on_ok, both_ways}
 use Rattle.sheetshare.proofs.Standing.{sheet_size, held_le, sees, issued, took, beside, pushed_one}
 
 module _ {A : Type 0} where
@@ -55,10 +61,6 @@ module _ {A : Type 0} where
   sum-set f [] i x d h = absurd (omega arith)
   sum-set f (y ∷ xs) zero x d h = omega (arith, sum_by-cons f y xs, sum_by-cons f x xs)
   sum-set f (y ∷ xs) (suc i) x d h = let e = sum-set f xs i x d (omega arith) in omega (arith, e, sum_by-cons f y xs, sum_by-cons f y (slice_set xs i x))
-
-
-
-
 
 module _ (size : Size) (H : List Entry) where
   each-at : (first : ℕ) (rs : List Replica) (p : ℕ) (r : Replica) → EachRepresents size H first rs → p < length rs → Represents size H (first + p) (slice_index_or rs p r)
@@ -227,3 +229,63 @@ module _ (size : Size) (H : List Entry) (rs : List Replica) (run : IsRun size H 
 
   pub pushed_within : r.pushed ≤ length r.made
   pushed_within = stands.pushed
+
+  pub taken_within : r.taken ≤ length H
+  taken_within = stands.taken
+
+  -- what is shown of the replica is what the site sees
+  pub shown_here : (count : ℕ) → count ≡ length r.made - r.acknowledged →
+      sheet_text (head_text r.name r.taken count (shown_placed r.sheet)) (shown_placed r.sheet) ≡ show_text (world_of size H rs) p
+  shown_here count e =
+      let seen : shown_placed r.sheet ≡ shown (view_at (world_of size H rs) p) = ap shown_placed sees_here ∙ sym (shown-placed (view_at (world_of size H rs) p)) in
+      let waiting = e ∙ sym pending_here in
+      λ i. let s = sym seat_is i in sheet_text (head_text s.name s.taken (waiting i) (seen i)) (seen i)
+
+  -- after an edit, whatever came of it
+  pub edited_run : (e : Edit) (site : Site) → site ≡ record { 0 = suc p } → (new : Replica) (x : Result (Unit {0}) EditErr) →
+      OnOk x ((op : Intent) × (replica.decided r e ≡ Ok op) × (new ≡ replica.issued_by r site op)) → OnErr x (new ≡ r) → IsRun size H (slice_set rs p new)
+  edited_run e site number new x ok err =
+      both_ways x ok err
+      (λ done.
+      let (took, room) = accepted (operations r.made) (intended_by r.sheet.rows r.sheet.cols e) done.0 done.1 in
+      let fits = subst (λ (s : Size). IntentFits s done.0) size_here (intended-fits r.sheet e done.0 took) in
+      let here_now : new ≡ replica.issued_by r (record { 0 = suc p }) done.0 = done.2 ∙ ap (λ (s : Site). replica.issued_by r s done.0) number in
+      subst (λ (y : Replica). IsRun size H (slice_set rs p y)) (sym here_now) (issued_run done.0 fits (omega (arith, room, operations-length r.made))))
+      (λ same. subst (λ (y : Replica). IsRun size H (slice_set rs p y)) (sym same) run_same)
+
+  pub edited_world : (e : Edit) (site : Site) → site ≡ record { 0 = suc p } → (new : Replica) (x : Result (Unit {0}) EditErr) →
+      OnOk x ((op : Intent) × (replica.decided r e ≡ Ok op) × (new ≡ replica.issued_by r site op)) →
+      OnOk x ((op : Intent) × (decided (world_of size H rs) p e ≡ Ok op) × (world_of size H (slice_set rs p new) ≡ after_decided (world_of size H rs) p (Ok op)))
+  edited_world e site number new x ok =
+      on_ok x (λ done.
+      let here_now : new ≡ replica.issued_by r (record { 0 = suc p }) done.0 = done.2 ∙ ap (λ (s : Site). replica.issued_by r s done.0) number in
+      (done.0, decided_here e ∙ done.1, ap (λ (y : Replica). world_of size H (slice_set rs p y)) here_now ∙ issued_world done.0)) ok
+
+-- a site added to a run without entries
+module _ (size : Size) where
+  each-append : (H : List Entry) (first : ℕ) (rs : List Replica) (r : Replica) → EachRepresents size H first rs → Represents size H (first + length rs) r → EachRepresents size H first (rs ++ r ∷ [])
+  each-append H first [] r s t = (let e : first + 0 ≡ first = omega arith in subst (λ (n : ℕ). Represents size H n r) e t, tt)
+  each-append H first (x ∷ rs) r s t =
+      (s.0, let e : first + suc (length rs) ≡ suc first + length rs = omega arith in each-append H (suc first) rs r s.1 (subst (λ (n : ℕ). Represents size H n r) e t))
+
+  abbrev pub fresh : List ℕ → PlacedSheet → Replica
+  fresh name sheet = record { name = name; made = []; pushed = 0; taken = 0; acknowledged = 0; sheet = sheet }
+
+  pub added_run : (H : List Entry) (rs : List Replica) → IsRun size H rs → H ≡ [] → length rs < 8 → (name : List ℕ) (sheet : PlacedSheet) → sheet ≡ placed (opened size) → IsRun size H (rs ++ fresh name sheet ∷ [])
+  added_run H rs run none few name sheet opens = record {
+    rows = run.rows;
+    cols = run.cols;
+    sites = omega (arith, few, length-append rs (fresh name sheet ∷ []));
+    few = let z : length H ≡ 0 = ap length none in omega (arith, z);
+    fits = run.fits;
+    each = each-append H 1 rs (fresh name sheet) run.each (subst (λ (es : List Entry). Represents size es (1 + length rs) (fresh name sheet)) (sym none) (record {
+      taken = omega arith;
+      pushed = omega arith;
+      few = omega arith;
+      mine = refl;
+      own = tt;
+      fits = tt;
+      acknowledged = refl;
+      sheet = opens;
+    }));
+  }

@@ -1,5 +1,7 @@
 pub mod Replicas
-pub mod Texts
 pub mod World
 pub mod Transcript
 pub mod Runs
+pub mod Desks
+pub mod Played
+pub mod Exits

@@ -1,9 +1,8 @@
 -- What a replica does, by what it keeps.
-use Rattle.std.specs.Prelude.{ℕ, ◌≡◌, ◌+◌, ◌<◌, nat_eq, nat_lt, if◌then◌else◌, List, [], ◌∷◌, ◌++◌, length, drop, Result, Ok, Err}
+use Rattle.std.specs.Prelude.{◌+◌, nat_eq, if◌then◌else◌, List, [], ◌∷◌, ◌++◌, drop, Result, Ok, Err}
 use Rattle.ss_base.specs.declared.types.Site.{Site}
 use Rattle.sheet_ops.specs.declared.edit.Edit.{Edit}
 use Rattle.sheet_ops.specs.declared.edit.EditErr.{EditErr}
-use Rattle.sheet_ops.specs.declared.edit.EditErr.TheVariants as fault
 use Rattle.sheet_ops.specs.declared.operation.Entry.{Entry}
 use Rattle.sheet_ops.specs.declared.operation.Intent.{Intent}
 use Rattle.sheet_ops.specs.declared.operation.Effect.{Effect}

@@ -1,5 +1,6 @@
 -- What the replicas and the history of a run stand for.
-use Rattle.std.specs.Prelude.{ℕ, suc, ◌≡◌, ◌≤◌, List, [], ◌∷◌, ◌++◌, length, take, drop, map, sum_by}
+use Rattle.std.specs.Prelude.{ℕ, suc, ◌≡◌, ◌≤◌, List, [], ◌∷◌, ◌++◌, length, take, drop, map, sum_by, position, Option}
+use Rattle.std.specs.Str.{bytes_eq}
 use Rattle.ss_base.specs.declared.types.Size.{Size}
 use Rattle.sheet_ops.specs.declared.operation.Entry.{Entry}
 use Rattle.sheet_ops.specs.Fits.{IntentFits}
@@ -46,3 +47,7 @@ seat_of r = record { name = r.name; made = r.made; pushed = r.pushed; taken = r.
 
 abbrev pub world_of : Size → List Entry → List Replica → World
 world_of size H rs = record { size = size; history = H; seats = map seat_of rs }
+
+-- the place of the first replica with this name
+abbrev pub place_among : List Replica → List ℕ → Option ℕ
+place_among rs name = position (λ r. bytes_eq name r.name) rs

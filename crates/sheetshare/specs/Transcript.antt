@@ -5,7 +5,7 @@ use Rattle.sheet_ops.specs.declared.operation.Intent.{Intent}
 use Rattle.sheet_ops.specs.Shown.{shown}
 use Rattle.script_read.specs.declared.command.Command.{Command}
 use Rattle.script_read.specs.declared.command.Command.TheVariants as command
-use Rattle.sheetshare.specs.Texts.{sheet_text, head_text, refusal_text}
+use Rattle.sheet_text.specs.Texts.{sheet_text, head_text, refusal_text}
 use Rattle.sheetshare.specs.World.{World, no_world, place_of, seat_at, view_at, pending_at, decided, after}
 
 -- of an edit the line of its refusal alone
@@ -14,13 +14,13 @@ refusal_of line (Ok op) = []
 refusal_of line (Err e) = refusal_text line e
 
 -- the sheet that a site sees
-abbrev pub show_text : World → ℕ → List ℕ → List ℕ
-show_text w p name = let S = shown (view_at w p) in sheet_text (head_text name (seat_at w p).taken (pending_at w p) S) S
+abbrev pub show_text : World → ℕ → List ℕ
+show_text w p = let S = shown (view_at w p) in sheet_text (head_text (seat_at w p).name (seat_at w p).taken (pending_at w p) S) S
 
 -- what a command on a line prints
 abbrev pub printed : World → ℕ → Command → List ℕ
 printed w line (command.Edit name e) = let p = place_of w name in refusal_of line (decided w p e)
-printed w line (command.Show name) = show_text w (place_of w name) name
+printed w line (command.Show name) = show_text w (place_of w name)
 printed w line _ = []
 
 -- commands with the numbers of their lines

@@ -1,8 +1,7 @@
 -- The state of a run: one history, and what each site has. One command is one step of it.
-use Rattle.std.specs.Prelude.{ℕ, zero, suc, ◌+◌, ◌-◌, min, nat_lt, if◌then◌else◌, List, [], ◌∷◌, ◌++◌, length, take, drop, Option, Some, None, Result, Ok, Err, slice_index_or, slice_set}
+use Rattle.std.specs.Prelude.{ℕ, zero, suc, ◌+◌, ◌-◌, min, nat_lt, if◌then◌else◌, List, [], ◌∷◌, ◌++◌, length, take, drop, Option, Some, None, Result, Ok, Err, slice_index_or, slice_set, position, unwrap_or}
 use Rattle.std.specs.Str.{bytes_eq}
 use Rattle.ss_base.specs.declared.types.Size.{Size}
-use Rattle.ss_base.specs.declared.types.Site.{Site}
 use Rattle.sheet_ops.specs.declared.edit.Edit.{Edit}
 use Rattle.sheet_ops.specs.declared.edit.EditErr.{EditErr}
 use Rattle.sheet_ops.specs.declared.edit.EditErr.TheVariants as fault
@@ -11,7 +10,6 @@ use Rattle.sheet_ops.specs.declared.operation.Intent.{Intent}
 use Rattle.sheet_ops.specs.Identity.{IdSheet}
 use Rattle.sheet_ops.specs.History.{own_entries, operations, view}
 use Rattle.sheet_ops.specs.Edits.{intended}
-use Rattle.sheet_ops.specs.Lines.{place_where}
 use Rattle.script_read.specs.declared.command.Command.{Command}
 use Rattle.script_read.specs.declared.command.Command.TheVariants as command
 
@@ -34,9 +32,12 @@ no_world = record { size = record { rows = 0; cols = 0 }; history = []; seats = 
 abbrev pub new_seat : List ℕ → Seat
 new_seat name = record { name = name; made = []; pushed = 0; taken = 0 }
 
--- the place of the site with this name
+-- the place of the site with this name, if there is one
+abbrev pub place_in : List Seat → List ℕ → Option ℕ
+place_in seats name = position (λ s. bytes_eq name s.name) seats
+
 abbrev pub place_of : World → List ℕ → ℕ
-place_of w name = place_where (λ s. bytes_eq s.name name) w.seats
+place_of w name = unwrap_or (place_in w.seats name) 0
 
 abbrev pub seat_at : World → ℕ → Seat
 seat_at w p = slice_index_or w.seats p (new_seat [])

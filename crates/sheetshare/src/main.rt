@@ -2,7 +2,54 @@
 #![tactic(auto)]
 
 mod author;
+mod desk;
+mod exit;
+mod play;
 mod replica;
 mod run;
+#[cfg(test)]
+mod tests;
 
-fn main(_rt: HostRuntime) {}
+use crate::exit::code;
+use crate::play::{Status, play};
+use ss_base::{StdSink, StdSource, Txt};
+use std::env;
+use std::io::ErrorKind;
+use std::process::ExitCode;
+
+fn main(rt: HostRuntime) -> ExitCode {
+    let status = run_script(&rt);
+    if status != Status::Done {
+        // The exit status tells the same where standard error takes no line.
+        let _ = eprintln!(rt; "sheetshare: {status}");
+    }
+    ExitCode::from(code(status))
+}
+
+/// Plays the script on standard input, and prints to standard output, neither with a buffer between.
+fn run_script(rt: &HostRuntime) -> Status {
+    let words = match words(rt) {
+        Ok(words) => words,
+        Err(status) => return status,
+    };
+    let mut source = StdSource::new(rt.stdin());
+    let mut sink = StdSink::new(rt.stdout());
+    play(rt.alloc(), words.as_slice(), &mut source, &mut sink).status
+}
+
+/// The words after the program's name.
+fn words(rt: &HostRuntime) -> Result<Vec<Txt>, Status> {
+    let args = match env::args(rt) {
+        Ok(args) => args,
+        Err(error) if error.kind() == ErrorKind::OutOfMemory => return Err(Status::Memory),
+        // A word that isn't UTF-8 is a word.
+        Err(_) => return Err(Status::Usage),
+    };
+    let mut words = Vec::new(rt.alloc());
+    for arg in args.skip(1) {
+        if words.push(Txt::from_vec(arg.into_bytes())).is_err() {
+            return Err(Status::Memory);
+        }
+    }
+    Ok(words)
+}

@@ -36,7 +36,8 @@ const MOST: usize = 1000;
 fn puts_cover(puts: &[Put], put: &Put) -> bool
     ensures { result ≡ writes_cell puts.now put.now }
 {
-    puts.iter().any(|own| own.row == put.row && own.col == put.col)
+    puts.iter()
+        .any(|own| own.row == put.row && own.col == put.col)
 }
 
 /// Whether some entries write a cell.

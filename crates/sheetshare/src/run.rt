@@ -1,8 +1,8 @@
-ghost use Rattle.std.specs.Prelude.{◌≡◌, ◌≢◌, ◌≤◌, ◌<◌, ◌+◌, ◌-◌, [], ◌∷◌, ◌++◌, length, Some, None, Ok, Err, IfOk, OnOk, OnErr, IfErr, IfSome, IfNone, false, slice_get, slice_index_or};
-ghost use Rattle.sheetshare.specs.World.{World, Seat, no_world, new_seat, place_of, seat_at, decided, after_decided, at_most, pushed, pulled, each_pushed, each_pulled};
+ghost use Rattle.std.specs.Prelude.{◌≡◌, ◌≢◌, ◌≤◌, ◌<◌, ◌+◌, ◌-◌, [], ◌∷◌, ◌++◌, length, Some, None, Ok, Err, IfOk, OnOk, OnErr, IfErr, slice_get, slice_index_or};
+ghost use Rattle.sheetshare.specs.World.{World, Seat, no_world, new_seat, place_in, seat_at, decided, after_decided, at_most, pushed, pulled, each_pushed, each_pulled};
 ghost use Rattle.sheetshare.specs.Transcript.{show_text};
+ghost use Rattle.sheetshare.specs.Runs.{place_among};
 ghost use Rattle.sheet_ops.specs.declared.operation.Intent.{Intent};
-ghost use Rattle.std.specs.List.{list_any};
 ghost use Rattle.std.specs.Str.{bytes_eq};
 
 use crate::replica::Replica;
@@ -208,7 +208,7 @@ impl Run {
     /// The text of the sheet that a site sees.
     pub fn show(&self, alloc: Global, place: usize) -> Result<Txt, Memory>
         requires { place < length self.now.seats }
-        ensures { IfOk result (λ t. t ≡ show_text self.now place (seat_at self.now place).name) }
+        ensures { IfOk result (λ t. t ≡ show_text self.now place) }
     {
         let replica = &self.replicas[place];
         let pending = replica.made.len() as u32 - replica.acknowledged;
@@ -216,16 +216,25 @@ impl Run {
         sheet_lines(alloc, &head, &replica.sheet)
     }
 
-    /// The place of the site with this name.
+    /// The place of the site with this name, if there is one.
     pub fn place_of(&self, name: &Txt) -> Option<usize>
-        ensures found { IfSome result (λ p. (p ≡ place_of self.now name.now) × (p < length self.now.seats)) }
-        ensures none { IfNone result (list_any (λ s. bytes_eq s.name name.now) self.now.seats ≡ false) }
+        ensures { result ≡ place_in self.now.seats name.now }
     {
-        let _size = self.size;
-        self.replicas
-            .iter()
-            .position(|replica| replica.name.bytes() == name.bytes())
+        first_of(&self.replicas, name)
     }
+}
+
+/// The place of the first replica with this name.
+fn first_of(replicas: &[Replica], name: &Txt) -> Option<usize>
+    ensures { result ≡ place_among replicas.now name.now }
+{
+    replicas.iter().position(|replica| is_of(replica, name))
+}
+
+fn is_of(replica: &Replica, name: &Txt) -> bool
+    ensures { result ≡ bytes_eq name.now replica.now.name }
+{
+    name.bytes() == replica.name.bytes()
 }
 
 /// A number that is asked for, or all that is left.

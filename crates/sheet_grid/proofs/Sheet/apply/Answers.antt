@@ -1,10 +1,10 @@
-use Rattle.std.proofs.Common.{◌≡◌, ℕ, ◌∙◌, ap, sym, subst, arith, length, List}
-use Rattle.std.specs.Prelude.{map, take, drop, ◌++◌, OnOk}
+use Rattle.std.proofs.Common.{ℕ, ◌∙◌, ap, subst, arith, length, List}
+use Rattle.std.specs.Prelude.{map, drop}
 use Rattle.std.specs.BTreeMap.{BTreeMap}
 use Rattle.sheet_ops.specs.declared.content.Content.{Content}
-use Rattle.sheet_ops.specs.Effects.{effect_on}
-use Rattle.sheet_grid.specs.Rows.{held, sheet_of, IsTidy, AreInRows, AreInCols, written_by}
-use Rattle.sheet_grid.proofs.Stored.{length-held, effect_in_rows, effect_in_cols, tidy_after, sheet_after, steps_after, whole_front}
+use Rattle.sheet_grid.specs.Rows.{held, sheet_of, AreInRows, written_by}
+use Rattle.sheet_grid.proofs.Stored.{length-held}
+use Rattle.sheet_grid.proofs.Done.{effect_in_rows, effect_in_cols, tidy_after, sheet_after, steps_after, whole_front}
 use Rattle.sheet_grid.proofs.Sheet.apply.Goals as goal
 
 pub write_puts-requires : goal.write_puts-requires

@@ -1,6 +1,6 @@
 use Rattle.std.proofs.Common.{map}
 use Rattle.sheet_grid.specs.Rows.{held}
-use Rattle.sheet_grid.proofs.Stored.{opened_sheet}
+use Rattle.sheet_grid.proofs.Done.{opened_sheet}
 use Rattle.sheet_grid.proofs.Sheet.new.Goals as goal
 
 pub returns : goal.returns

@@ -1,5 +1,5 @@
 use Rattle.std.proofs.Common.{◌≡◌, ◌∙◌, ap, sym, arith, length}
-use Rattle.std.specs.Prelude.{vec_len, map, replicate, false}
+use Rattle.std.specs.Prelude.{vec_len, map}
 use Rattle.sheet_grid.proofs.Unmarked.{length-visible}
 use Rattle.sheet_grid.proofs.Stored.{length-held}
 use Rattle.sheet_grid.specs.Cells.{visible_size}

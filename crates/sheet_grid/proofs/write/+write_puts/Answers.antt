@@ -1,5 +1,5 @@
 use Rattle.std.proofs.Math.ListN.{length-set}
-use Rattle.std.proofs.Common.{rules, ◌≡◌, ◌∙◌, ap, sym, length, arith}
+use Rattle.std.proofs.Common.{rules, ◌∙◌, ap, sym, length, arith}
 use Rattle.std.specs.Prelude.{map, List}
 use Rattle.sheet_ops.specs.declared.content.Put.{Put}
 use Rattle.sheet_ops.specs.Effects.{cells_written}

@@ -1,11 +1,9 @@
-use Rattle.std.proofs.Common.{◌≡◌, ◌≤◌, ◌<◌, ℕ, arith, sym, ◌∙◌, ap, subst, length, Ok, Err, ◌++◌, ◌∷◌, []}
-use Rattle.std.specs.Prelude.{List, Result}
+use Rattle.std.proofs.Common.{◌≡◌, arith, sym, ◌∙◌, ap, subst, Ok}
+use Rattle.std.specs.Prelude.{Result}
 use Rattle.sheet_ops.specs.declared.edit.EditErr.{EditErr}
 use Rattle.sheet_ops.specs.declared.operation.Effect.{Effect}
-use Rattle.sheet_ops.specs.declared.operation.Entry.{Entry}
 use Rattle.sheet_ops.specs.declared.operation.Intent.{Intent}
 use Rattle.sheet_ops.specs.Fits.{EffectFits}
-use Rattle.sheet_ops.specs.Naming.{effect_of_intent}
 use Rattle.sheet_ops.specs.History.{operations}
 use Rattle.sheet_ops.specs.Placed.{placed_size}
 use Rattle.sheet_ops.specs.Effects.{effect_on}

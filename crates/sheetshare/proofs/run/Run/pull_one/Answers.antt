@@ -1,12 +1,10 @@
-use Rattle.std.proofs.Common.{◌≡◌, ◌<◌, ◌≤◌, ◌+◌, ℕ, suc, arith, sym, ◌∙◌, ap, subst, length, Some, None, Option, refl}
-use Rattle.std.specs.Prelude.{map, slice_get, slice_set, List}
+use Rattle.std.proofs.Common.{◌≡◌, ◌<◌, suc, arith, sym, ◌∙◌, ap, subst, length, Some}
+use Rattle.std.specs.Prelude.{map, slice_set}
 use Rattle.ss_base.specs.declared.types.Site.{Site}
-use Rattle.sheet_ops.specs.declared.operation.Entry.{Entry}
 use Rattle.sheetshare.specs.declared.replica.Replica.{Replica}
 use Rattle.sheetshare.specs.Replicas.{taken_by}
 use Rattle.sheetshare.specs.Runs.{IsRun, seat_of, world_of}
 use Rattle.sheetshare.specs.World.{Seat, World, seat_at, pulled}
-use Rattle.sheetshare.proofs.Entries.{within-at}
 use Rattle.sheetshare.proofs.Outcomes.{on_ok, on_err, either_way}
 use Rattle.sheetshare.proofs.Steps.{seat_is, short, fits_here, held_here, few_made, took_run, run_same, world_same, pulled_world, past_end}
 use Rattle.sheetshare.proofs.run.Run.pull_one.Goals as goal
@@ -68,12 +66,12 @@ pub returns-clause-ok : goal.returns-clause-ok
 returns-clause-ok c =
     let at = (goal.at.returns-clause-ok c).After-index_mut-replica in
     on_ok c.take.result (λ seat.
-        pulled_world c.self.inside.size c.self.inside.history c.self.inside.replicas.items c.self.invariant c.args.place c.index_mut-replica.result.now (place_here at) c.index_mut-replica.ensures.value c.take.new.self seat (more_here at)
-        ∙ ap (λ (w : World). pulled w c.args.place (Some 1)) c.self.view_is) c.take.ensures.seat
+    pulled_world c.self.inside.size c.self.inside.history c.self.inside.replicas.items c.self.invariant c.args.place c.index_mut-replica.result.now (place_here at) c.index_mut-replica.ensures.value c.take.new.self seat (more_here at)
+    ∙ ap (λ (w : World). pulled w c.args.place (Some 1)) c.self.view_is) c.take.ensures.seat
 
 pub returns-clause-err : goal.returns-clause-err
 returns-clause-err c =
     let at = (goal.at.returns-clause-err c).After-index_mut-replica in
     on_err c.take.result (λ same.
-        ap (λ (x : Replica). world_of c.self.inside.size c.self.inside.history (slice_set c.self.inside.replicas.items c.args.place x)) same
-        ∙ (world_same c.self.inside.size c.self.inside.history c.self.inside.replicas.items c.self.invariant c.args.place c.index_mut-replica.result.now (place_here at) c.index_mut-replica.ensures.value ∙ c.self.view_is)) c.take.ensures.err
+    ap (λ (x : Replica). world_of c.self.inside.size c.self.inside.history (slice_set c.self.inside.replicas.items c.args.place x)) same
+    ∙ (world_same c.self.inside.size c.self.inside.history c.self.inside.replicas.items c.self.invariant c.args.place c.index_mut-replica.result.now (place_here at) c.index_mut-replica.ensures.value ∙ c.self.view_is)) c.take.ensures.err

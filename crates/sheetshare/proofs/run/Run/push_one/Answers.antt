@@ -1,10 +1,9 @@
-use Rattle.std.proofs.Common.{◌≡◌, ◌<◌, ◌≤◌, ◌+◌, ℕ, suc, arith, sym, ◌∙◌, ap, subst, length, Some, ◌++◌, ◌∷◌, []}
+use Rattle.std.proofs.Common.{◌≡◌, ◌<◌, ◌+◌, arith, sym, ◌∙◌, ap, subst, length, Some, ◌++◌, ◌∷◌, []}
 use Rattle.std.specs.Prelude.{map, slice_get, slice_set, List}
 use Rattle.sheet_ops.specs.declared.operation.Entry.{Entry}
-use Rattle.sheetshare.specs.declared.replica.Replica.{Replica}
 use Rattle.sheetshare.specs.Runs.{IsRun, seat_of, world_of}
 use Rattle.sheetshare.specs.World.{Seat, World, seat_at, pushed}
-use Rattle.sheetshare.proofs.Steps.{seat_is, few_made, pushed_within, run_pushed, pushed_world, past_end}
+use Rattle.sheetshare.proofs.Steps.{seat_is, few_made, run_pushed, pushed_world, past_end}
 use Rattle.sheetshare.proofs.run.Run.push_one.Goals as goal
 use Rattle.sheetshare.proofs.run.Run.push_one.Goals.{In-Some, After-index_mut-replica, In_ok-push}
 

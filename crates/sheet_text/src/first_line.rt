@@ -1,0 +1,55 @@
+ghost use Rattle.std.specs.Prelude.{◌≡◌, ◌≢◌, IfOk};
+ghost use Rattle.sheet_ops.specs.declared.edit.EditErr.TheVariants as fault;
+ghost use Rattle.sheet_ops.specs.Shown.{shown_placed};
+ghost use Rattle.sheet_text.specs.Texts.{cause_text, head_text, refusal_text};
+
+use sheet_grid::Sheet;
+use sheet_ops::EditErr;
+use ss_base::{Memory, Txt};
+use std::alloc::Global;
+
+/// The line above a replica's cells, without its line feed: the name of its site, how many entries
+/// it has taken, how many of its own operations aren't acknowledged, and how many rows and columns
+/// are visible.
+pub fn head(
+    alloc: Global,
+    name: &Txt,
+    taken: u32,
+    pending: u32,
+    sheet: &Sheet,
+) -> Result<Txt, Memory>
+    ensures { IfOk result (λ t. t ≡ head_text name.now taken pending (shown_placed sheet.now)) }
+{
+    let seen = sheet.visible();
+    let counts = format!(in alloc;
+        " taken {taken} pending {pending} rows {} columns {}",
+        seen.rows, seen.cols
+    )?;
+    let mut text = Vec::from_slice(alloc, b"sheet ")?;
+    text.extend_from_slice(name.bytes())?;
+    text.extend_from_slice(counts.as_bytes())?;
+    Ok(Txt::from_vec(text))
+}
+
+/// The line of a refused edit, by the number of its line in the script. Want of memory isn't
+/// printed.
+pub fn refusal(alloc: Global, line: u32, cause: EditErr) -> Result<Txt, Memory>
+    requires { cause ≢ fault.Memory }
+    ensures { IfOk result (λ t. t ≡ refusal_text line cause) }
+{
+    let cause = word(cause);
+    let text = format!(in alloc; "refused {line} {cause}\n")?;
+    Ok(Txt::from_vec(text.into_bytes()))
+}
+
+/// Why an edit was refused, in a word.
+fn word(cause: EditErr) -> &'static str
+    requires { cause ≢ fault.Memory }
+    ensures { result.now ≡ cause_text cause }
+{
+    match cause {
+        EditErr::OutOfSheet => "outside",
+        EditErr::Spent => "spent",
+        EditErr::Memory => unreachable!(),
+    }
+}

@@ -1,0 +1,90 @@
+ghost use Rattle.std.specs.Prelude.{◌≡◌, ◌<◌, ◌≤◌, ◌++◌, length, map, IfOk, OnOk};
+ghost use Rattle.std.specs.Fmt.{signed_decimal};
+ghost use Rattle.sheet_ops.specs.Lines.{visible_places};
+ghost use Rattle.sheet_ops.specs.Placed.{cell_at};
+ghost use Rattle.sheet_ops.specs.Shown.{shown_placed, shown_text};
+ghost use Rattle.sheet_grid.specs.Cells.{visible_index};
+ghost use Rattle.sheet_text.specs.Texts.{cell_line, row_lines, sheet_text};
+ghost use Rattle.sheet_text.specs.Rows.{line_if_seen};
+
+use cell_addr::letters_of;
+use sheet_grid::{Kind, Sheet};
+use ss_base::{Memory, Txt};
+use std::alloc::Global;
+
+/// A first line, and below it a line for each visible cell that isn't empty, row by row, in a row
+/// by columns. It takes time with the rows and the filled cells, and the logarithm of a row's.
+pub fn sheet_lines(alloc: Global, head: &Txt, sheet: &Sheet) -> Result<Txt, Memory>
+    ensures { IfOk result (λ t. t ≡ sheet_text head.now (shown_placed sheet.now)) }
+{
+    let mut out = Vec::from_slice(alloc, head.bytes())?;
+    out.push(b'\n')?;
+    let seen = sheet.visible();
+    for visible in 0..seen.rows {
+        match sheet.row_at(visible) {
+            Some(row) => push_row(alloc, &mut out, sheet, visible, row)?,
+            None => unreachable!(),
+        }
+    }
+    Ok(Txt::from_vec(out))
+}
+
+/// Appends the lines of the row at a position, which is the visible row of this index.
+fn push_row(
+    alloc: Global,
+    out: &mut Vec<u8>,
+    sheet: &Sheet,
+    visible: u32,
+    row: u32,
+) -> Result<(), Memory>
+    requires visible { visible < 16000 }
+    requires row { row < length sheet.now.rows }
+    ensures { OnOk result (out.new.items ≡ out.old.items ++ row_lines visible 0 (map (λ c. shown_text sheet.now (cell_at sheet.now row c)) (visible_places sheet.now.cols))) }
+{
+    let mut from = 0;
+    while let Some(col) = sheet.next_in_row(row, from) {
+        push_if_seen(alloc, out, sheet, visible, row, col)?;
+        from = col + 1;
+    }
+    Ok(())
+}
+
+/// Appends the line of the cell at these positions, if its column is visible.
+fn push_if_seen(
+    alloc: Global,
+    out: &mut Vec<u8>,
+    sheet: &Sheet,
+    visible: u32,
+    row: u32,
+    col: u32,
+) -> Result<(), Memory>
+    requires visible { visible < 16000 }
+    requires row { row < length sheet.now.rows }
+    requires col { col < length sheet.now.cols }
+    ensures { OnOk result (out.new.items ≡ out.old.items ++ line_if_seen visible (visible_index sheet.now.cols col) (shown_text sheet.now (cell_at sheet.now row col))) }
+{
+    match (sheet.col_seen(col), sheet.kind(row, col)) {
+        (Some(seen), Kind::Num(number)) => push_cell(alloc, out, visible, seen, number),
+        (Some(_), Kind::Empty) | (None, _) => Ok(()),
+    }
+}
+
+/// Appends the line of a number by its visible row and column.
+fn push_cell(
+    alloc: Global,
+    out: &mut Vec<u8>,
+    row: u32,
+    col: u32,
+    number: i64,
+) -> Result<(), Memory>
+    requires row { row < 16000 }
+    requires col { col < 16000 }
+    ensures { OnOk result (out.new.items ≡ out.old.items ++ cell_line row col (signed_decimal number)) }
+{
+    let mut letters = [0; 4];
+    let count = letters_of(col, &mut letters);
+    let rest = format!(in alloc; "{} {number}\n", row + 1)?;
+    out.extend_from_slice(&letters[..count])?;
+    out.extend_from_slice(rest.as_bytes())?;
+    Ok(())
+}

@@ -1,0 +1,52 @@
+ghost use Rattle.std.specs.Prelude.{◌≡◌};
+ghost use Rattle.sheetshare.specs.Exits.{exit_code};
+
+use crate::play::Status;
+use script_read::ScriptKind;
+use std::fmt;
+use std::fmt::{Display, Formatter};
+
+/// The number that the program ends with.
+pub fn code(status: Status) -> u8
+    ensures { result ≡ exit_code status }
+{
+    match status {
+        Status::Done => 0,
+        Status::Script(_) => 1,
+        Status::ReadFault => 2,
+        Status::WriteFault => 3,
+        Status::Memory => 4,
+        Status::Usage => 5,
+        Status::TooLong(_) => 6,
+    }
+}
+
+/// Why a script stopped, in one word or two.
+fn cause(kind: ScriptKind) -> &'static str {
+    match kind {
+        ScriptKind::Grammar => "grammar",
+        ScriptKind::Sheet => "sheet",
+        ScriptKind::Site => "site",
+        ScriptKind::NotLive => "not live",
+        ScriptKind::Unended => "unended",
+    }
+}
+
+/// What the program says of a status on standard error, behind its name. Lines count from 1.
+impl Display for Status {
+    fn fmt<W: fmt::Write>(&self, f: &mut Formatter<W>) -> fmt::Result {
+        match *self {
+            Status::Done => f.write_str("done"),
+            Status::Script(err) => {
+                let line = err.line;
+                let cause = cause(err.kind);
+                write!(f, "line {line}: {cause}")
+            }
+            Status::ReadFault => f.write_str("read fault"),
+            Status::WriteFault => f.write_str("write fault"),
+            Status::Memory => f.write_str("no memory"),
+            Status::Usage => f.write_str("usage"),
+            Status::TooLong(line) => write!(f, "line {line}: too long"),
+        }
+    }
+}
