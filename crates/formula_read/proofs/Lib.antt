@@ -1,0 +1,15 @@
+pub mod Choices
+pub mod Stepping
+pub mod Corners
+pub mod Addresses
+pub mod Words
+pub mod States
+pub mod Forms
+pub mod Splits
+pub mod Next
+pub mod Cuts
+pub mod Walk
+pub mod Syntax
+pub mod Functions
+pub mod Bytes
+pub mod Fronts

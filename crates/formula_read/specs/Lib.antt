@@ -1,0 +1,5 @@
+pub mod Partial
+pub mod Longest
+pub mod Read
+pub mod Places
+pub mod Reading

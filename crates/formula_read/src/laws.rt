@@ -1,0 +1,24 @@
+ghost use Rattle.std.specs.Prelude.{◌≡◌, ◌≢◌, ◌↔◌, ℕ, List, [], Some, None};
+ghost use Rattle.formula_tree.specs.Tokens.{Token};
+ghost use Rattle.formula_tree.specs.Lexing.{Lexeme, Lexes};
+ghost use Rattle.formula_tree.specs.Grammar.{IsFront};
+ghost use Rattle.formula_read.specs.Reading.{read_text};
+ghost use Rattle.formula_read.specs.declared.partial.Partial.TheVariants.{Fresh};
+ghost use Rattle.formula_read.specs.Places.{head, has, advance_all, tokens_of, AreProper, IsFormula, IsFormulaFront, IsFormulaText, IsReadToEnd};
+
+/// Token by token: the reader stands somewhere exactly after the fronts of formulas, and has an
+/// operand outside all brackets exactly after formulas. Each name of a text is that of a function, so a
+/// text is a formula's exactly where it is cut into tokens that lead there.
+pub fn token_fronts()
+    ensures fronts { (ts : List Token) → AreProper ts → (IsFormulaFront ts ↔ (advance_all (Some head) ts ≢ None)) }
+    ensures names { (bs : List ℕ) (ls : List Lexeme) → Lexes 0 bs ls → AreProper (tokens_of ls) }
+    ensures texts { (bs : List ℕ) → (IsFormulaText bs ↔ IsReadToEnd bs) }
+    ensures formulas { (ts : List Token) → AreProper ts → (IsFormula ts ↔ (advance_all (Some head) ts ≡ Some (has []))) }
+{}
+
+/// Byte by byte: the reader, with the front of a token as a state of its own, stands somewhere exactly
+/// after the fronts of formulas. So the longest front of a text that some formula has, too, has as many
+/// bytes as it reads before it stands nowhere.
+pub fn text_fronts()
+    ensures { (bs : List ℕ) → (IsFront bs ↔ (read_text (Some (head, Fresh)) bs ≢ None)) }
+{}

@@ -1,0 +1,12 @@
+pub mod Tree
+pub mod Erase
+pub mod TreeCode
+pub mod Names
+pub mod Precedence
+pub mod Measures
+pub mod Tokens
+pub mod WellFormed
+pub mod Remap
+pub mod Lists
+pub mod Lexing
+pub mod Grammar
