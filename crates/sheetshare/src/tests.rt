@@ -11,14 +11,12 @@ const FRONT: &[u8] =
 /// Each site takes what is left, and shows what the other shows.
 const BACK: &[u8] = b"pull all\nshow a\nshow b\nend\n";
 
-/// What the first `show` prints.
+/// What the first `show` prints, the first two, and all.
 const ONE: &[u8] = b"sheet b taken 1 pending 1 rows 1 columns 1\nA1 2\n";
 
-/// What the first two print.
 const TWO: &[u8] =
     b"sheet b taken 1 pending 1 rows 1 columns 1\nA1 2\nsheet a taken 2 pending 0 rows 1 columns 1\nA1 2\n";
 
-/// What all three print.
 const ALL: &[u8] =
     b"sheet b taken 1 pending 1 rows 1 columns 1\nA1 2\nsheet a taken 2 pending 0 rows 1 columns 1\nA1 2\nsheet b taken 2 pending 0 rows 1 columns 1\nA1 2\n";
 
