@@ -6,7 +6,6 @@ use Rattle.ss_base.specs.declared.types.Spot.{Spot}
 use Rattle.cell_addr.specs.Cells.{cell_of}
 use Rattle.cell_addr.specs.Rows.{counted}
 use Rattle.sheet_ops.specs.declared.edit.Edit.TheVariants as edit
-use Rattle.sheet_ops.specs.Edits.{number_of}
 use Rattle.script_read.specs.declared.command.Command.{Command}
 use Rattle.script_read.specs.declared.command.Command.TheVariants as command
 use Rattle.script_read.specs.Words.{is_printable, words, named}
@@ -33,11 +32,15 @@ abbrev pub plain_cell : Option Spot → Option Spot
 plain_cell None = None
 plain_cell (Some spot) = if spot.abs_row || spot.abs_col then None else Some spot
 
--- `NAME set CELL ENTRY`, where the entry is a number
+-- `NAME set CELL ENTRY`
 abbrev pub set_of : Option (List ℕ) → Option Spot → List ℕ → Option Command
-set_of (Some name) (Some spot) entry =
-    if is_some (number_of entry) then Some (command.Edit name (edit.Set spot entry)) else None
+set_of (Some name) (Some spot) (b ∷ entry) = Some (command.Edit name (edit.Set spot (b ∷ entry)))
 set_of _ _ _ = None
+
+-- `NAME clear CELL`
+abbrev pub clear_of : Option (List ℕ) → Option Spot → Option Command
+clear_of (Some name) (Some spot) = Some (command.Edit name (edit.Clear spot))
+clear_of _ _ = None
 
 -- the lines of one word: `end`
 abbrev pub of_one_word : List ℕ → Option Command
@@ -54,15 +57,16 @@ of_two_words first second =
     else if bytes_eq second (codes "pull") then option_map (λ name. command.Pull name None) (named first)
     else None
 
--- of three: `sheet COUNT COUNT`, `NAME push COUNT`, `NAME pull COUNT`
+-- of three: `sheet COUNT COUNT`, `NAME push COUNT`, `NAME pull COUNT`, `NAME clear CELL`
 abbrev pub of_three_words : List ℕ → List ℕ → List ℕ → Option Command
 of_three_words first second third =
     if bytes_eq first (codes "sheet") then sheet_of (counted second) (counted third)
     else if bytes_eq second (codes "push") then push_of (named first) (counted third)
     else if bytes_eq second (codes "pull") then pull_of (named first) (counted third)
+    else if bytes_eq second (codes "clear") then clear_of (named first) (plain_cell (cell_of third))
     else None
 
--- of more: `NAME set CELL ENTRY`, the entry being the rest of the line, spaces included
+-- of more: `NAME set CELL ENTRY`, the entry being the rest of the line, at least a byte, spaces included
 abbrev pub of_more_words : List ℕ → List ℕ → List ℕ → List ℕ → Option Command
 of_more_words first second third entry =
     if bytes_eq second (codes "set") then set_of (named first) (plain_cell (cell_of third)) entry else None

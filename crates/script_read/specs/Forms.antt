@@ -12,6 +12,7 @@ command_said form.Note = command.Note
 command_said (form.Sheet size) = command.Sheet size
 command_said (form.Site name) = command.Site name.now
 command_said (form.Set name spot entry) = command.Edit name.now (edit.Set spot entry.now)
+command_said (form.Clear name spot) = command.Edit name.now (edit.Clear spot)
 command_said (form.Push name count) = command.Push name.now count
 command_said (form.Pull name count) = command.Pull name.now count
 command_said form.PushAll = command.PushAll

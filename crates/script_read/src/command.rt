@@ -14,7 +14,7 @@ pub enum Command {
     Sheet(Size),
     /// `site NAME`: declares a site.
     Site(Txt),
-    /// `NAME set CELL ENTRY`: the site enters a text into a cell.
+    /// `NAME set CELL ENTRY`: the site enters a text into a cell; `NAME clear CELL`: it empties one.
     Edit(Txt, Edit),
     /// `NAME push` or `NAME push COUNT`: the site's operations go to the server, all or at most so many.
     Push(Txt, Option<u32>),

@@ -13,6 +13,7 @@ pub enum Form<'a> {
     Sheet(Size),
     Site(&'a [u8]),
     Set(&'a [u8], Spot, &'a [u8]),
+    Clear(&'a [u8], Spot),
     Push(&'a [u8], Option<u32>),
     Pull(&'a [u8], Option<u32>),
     PushAll,
@@ -33,6 +34,7 @@ pub fn to_command(alloc: Global, form: Form<'_>) -> Result<Command, Memory>
             let name = Txt::new(alloc, name)?;
             Command::Edit(name, Edit::Set(spot, Txt::new(alloc, entry)?))
         }
+        Form::Clear(name, spot) => Command::Edit(Txt::new(alloc, name)?, Edit::Clear(spot)),
         Form::Push(name, count) => Command::Push(Txt::new(alloc, name)?, count),
         Form::Pull(name, count) => Command::Pull(Txt::new(alloc, name)?, count),
         Form::PushAll => Command::PushAll,

@@ -10,7 +10,6 @@ mod words;
 pub use command::{Command, LineFault};
 pub use read::read_command;
 pub use script::{ScriptErr, ScriptKind};
-pub use words::read_number;
 
 #[cfg(test)]
 mod tests;

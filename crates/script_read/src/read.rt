@@ -7,7 +7,7 @@ ghost use Rattle.script_read.specs.Words.{is_printable, words};
 
 use crate::command::{Command, LineFault};
 use crate::form::{Form, to_command};
-use crate::words::{cut, is_number, is_word, name_of};
+use crate::words::{cut, is_word, name_of};
 use cell_addr::{read_cell, read_count};
 use ss_base::{Size, Spot};
 use std::alloc::Global;
@@ -115,6 +115,8 @@ fn of_three_words<'a>(first: &'a [u8], second: &'a [u8], third: &'a [u8]) -> Opt
         Some(Form::Push(name_of(first)?, Some(read_count(third)?)))
     } else if is_word(second, b"pull") {
         Some(Form::Pull(name_of(first)?, Some(read_count(third)?)))
+    } else if is_word(second, b"clear") {
+        Some(Form::Clear(name_of(first)?, plain_cell(third)?))
     } else {
         None
     }
@@ -144,10 +146,10 @@ fn of_more_words<'a>(
     }
     let name = name_of(first)?;
     let spot = plain_cell(third)?;
-    if is_number(entry) {
-        Some(Form::Set(name, spot, entry))
-    } else {
+    if entry.is_empty() {
         None
+    } else {
+        Some(Form::Set(name, spot, entry))
     }
 }
 

@@ -3,7 +3,7 @@ use std::test::Fail;
 
 #[test]
 fn lines_and_their_commands(rt: HostRuntime) -> Result<(), Fail> {
-    let table: [(&[u8], &str); 27] = [
+    let table: [(&[u8], &str); 29] = [
         (b"", "Ok(Note)"),
         (b"# sheet 1 1", "Ok(Note)"),
         (b"sheet 1000 64", "Ok(Sheet(Size { rows: 1000, cols: 64 }))"),
@@ -15,6 +15,14 @@ fn lines_and_their_commands(rt: HostRuntime) -> Result<(), Fail> {
         (
             b"a set b3 -007",
             "Ok(Edit(Txt { bytes: [97] }, Set(Spot { row: 2, col: 1, abs_row: false, abs_col: false }, Txt { bytes: [45, 48, 48, 55] })))",
+        ),
+        (
+            b"a set A1  x ",
+            "Ok(Edit(Txt { bytes: [97] }, Set(Spot { row: 0, col: 0, abs_row: false, abs_col: false }, Txt { bytes: [32, 120, 32] })))",
+        ),
+        (
+            b"a clear A1",
+            "Ok(Edit(Txt { bytes: [97] }, Clear(Spot { row: 0, col: 0, abs_row: false, abs_col: false })))",
         ),
         (b"a push", "Ok(Push(Txt { bytes: [97] }, None))"),
         (
@@ -38,7 +46,7 @@ fn lines_and_their_commands(rt: HostRuntime) -> Result<(), Fail> {
         (b"sheet 1001 1", "Err(Grammar)"),
         (b"sheet 1 65", "Err(Grammar)"),
         (b"a set A$1 1", "Err(Grammar)"),
-        (b"a set A1 9223372036854775808", "Err(Grammar)"),
+        (b"a set A1 ", "Err(Grammar)"),
         (b"# a\ttab", "Err(Grammar)"),
     ];
     for (line, answer) in table {

@@ -40,6 +40,8 @@ filled : (what : Option Content) → IsSome what → what ≢ Some content.Empty
 filled None some other = absurd (cc)
 filled (Some content.Empty) some other = absurd (other refl)
 filled (Some (content.Num z)) some other = λ e. cc
+filled (Some (content.Text t)) some other = λ e. cc
+filled (Some (content.Formula t)) some other = λ e. cc
 
 not_none : (what : Option Content) → IsSome what → what ≢ None
 not_none None some = absurd (cc)

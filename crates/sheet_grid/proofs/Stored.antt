@@ -123,11 +123,15 @@ settled_same : (what : Option Content) → unwrap_or (settled what) content.Empt
 settled_same None = refl
 settled_same (Some content.Empty) = refl
 settled_same (Some (content.Num z)) = refl
+settled_same (Some (content.Text t)) = refl
+settled_same (Some (content.Formula t)) = refl
 
 settled_filled : (what : Option Content) → settled what ≢ Some content.Empty
 settled_filled None e = cc
 settled_filled (Some content.Empty) e = cc
 settled_filled (Some (content.Num z)) e = cc
+settled_filled (Some (content.Text t)) e = cc
+settled_filled (Some (content.Formula t)) e = cc
 
 -- the first of some cells, and the others
 pub first_in_rows : (n : ℕ) (puts : List Put) (p : Put) (rest : List Put) → puts ≡ p ∷ rest → AreInRows n puts → p.row < n

@@ -12,6 +12,8 @@ use Rattle.sheet_grid.specs.declared.Kind.TheVariants as kind
 abbrev pub kind_of : Content → Kind
 kind_of content.Empty = kind.Empty
 kind_of (content.Num z) = kind.Num z
+kind_of (content.Text t) = kind.Text
+kind_of (content.Formula t) = kind.Formula
 
 -- how many rows and columns are seen
 abbrev pub visible_size : PlacedSheet → Size

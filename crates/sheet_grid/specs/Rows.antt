@@ -25,6 +25,8 @@ abbrev pub settled : Option Content → Option Content
 settled None = None
 settled (Some content.Empty) = None
 settled (Some (content.Num z)) = Some (content.Num z)
+settled (Some (content.Text t)) = Some (content.Text t)
+settled (Some (content.Formula t)) = Some (content.Formula t)
 
 -- so many contents of a row, from a column on
 abbrev pub contents_from : (ℕ → Option Content) → ℕ → ℕ → List Content

@@ -6,6 +6,7 @@ mod row;
 mod write;
 
 ghost use Rattle.std.specs.Prelude.{◌≡◌, ◌≢◌, ◌<◌, ◌≤◌, ℕ, length, slice_get, IfOk, OnOk, OnErr, IfSome, IfNone};
+ghost use Rattle.marked_lines.specs.Marks.{span_of};
 ghost use Rattle.sheet_ops.specs.declared.content.Content.TheVariants as content;
 ghost use Rattle.sheet_ops.specs.Identity.{opened};
 ghost use Rattle.sheet_ops.specs.Lines.{visible_places};
@@ -14,8 +15,8 @@ ghost use Rattle.sheet_ops.specs.Fits.{EffectFits};
 ghost use Rattle.sheet_ops.specs.Effects.{effect_on, Steps};
 ghost use Rattle.sheet_grid.specs.Cells.{kind_of, visible_index, visible_size};
 
-use crate::axis::{line_at, line_seen};
-use crate::row::{empty_rows, filled_from, kind_in};
+use crate::axis::{line_at, line_seen, lines_seen};
+use crate::row::{content_in, empty_rows, filled_from, kind_in};
 use crate::write::{write_puts, written_by};
 use sheet_ops::{Content, Effect};
 use ss_base::{Memory, Size};
@@ -28,6 +29,8 @@ use std::marker::Model;
 pub enum Kind {
     Empty,
     Num(i64),
+    Text,
+    Formula,
 }
 
 /// A sheet, which contracts see by positions: per row and per column whether it is marked, and the
@@ -115,7 +118,33 @@ impl Sheet {
         line_seen(self.cols, col)
     }
 
-    /// What a cell holds, by its position. It takes time with the logarithm of the row's filled
+    /// The visible index of the row at this position, and `None` exactly where it is hidden or isn't
+    /// there.
+    pub fn row_seen(&self, row: u32) -> Option<u32>
+        ensures index { result ≡ visible_index self.now.rows row }
+        ensures few { IfSome result (λ visible. visible < 16000) }
+    {
+        line_seen(self.rows.len() as u32, row)
+    }
+
+    /// The visible indexes of the first and of the last visible row from one position to another,
+    /// both counted, and `None` exactly where no row between is visible.
+    pub fn rows_seen(&self, first: u32, last: u32) -> Option<(u32, u32)>
+        ensures span { result ≡ span_of self.now.rows first last }
+        ensures few { IfSome result (λ seen. (seen.0 < 16000) × (seen.1 < 16000)) }
+    {
+        lines_seen(self.rows.len() as u32, first, last)
+    }
+
+    /// The same of columns.
+    pub fn cols_seen(&self, first: u32, last: u32) -> Option<(u32, u32)>
+        ensures span { result ≡ span_of self.now.cols first last }
+        ensures few { IfSome result (λ seen. (seen.0 < 16000) × (seen.1 < 16000)) }
+    {
+        lines_seen(self.cols, first, last)
+    }
+
+    /// What kind of content a cell holds, by its position. It takes time with the logarithm of the row's filled
     /// cells.
     pub fn kind(&self, row: u32, col: u32) -> Kind
         requires row { row < length self.now.rows }
@@ -123,6 +152,16 @@ impl Sheet {
         ensures { result ≡ kind_of (cell_at self.now row col) }
     {
         kind_in(&self.rows[row as usize], col)
+    }
+
+    /// A copy of what a cell holds, by its position. It takes time with the logarithm of the row's
+    /// filled cells, and with the content.
+    pub fn content(&self, row: u32, col: u32) -> Result<Content, Memory>
+        requires row { row < length self.now.rows }
+        requires col { col < length self.now.cols }
+        ensures { IfOk result (λ c. c ≡ cell_at self.now row col) }
+    {
+        content_in(&self.rows[row as usize], col)
     }
 
     /// The first column from `from` on whose cell in this row isn't empty, hidden columns too. It

@@ -26,7 +26,19 @@ pub fn kind_in(row: &BTreeMap<u32, Content>, col: u32) -> Kind
 {
     match row.get(&col) {
         Some(Content::Num(n)) => Kind::Num(*n),
+        Some(Content::Text(_)) => Kind::Text,
+        Some(Content::Formula(_)) => Kind::Formula,
         Some(Content::Empty) | None => Kind::Empty,
+    }
+}
+
+/// A copy of what the cell of a column holds.
+pub fn content_in(row: &BTreeMap<u32, Content>, col: u32) -> Result<Content, Memory>
+    ensures { IfOk result (λ c. c ≡ unwrap_or (held row.now col) content.Empty) }
+{
+    match row.get(&col) {
+        Some(what) => what.copy(),
+        None => Ok(Content::Empty),
     }
 }
 

@@ -2,4 +2,4 @@ pub mod Ids
 pub mod Written
 pub mod Overwritten
 pub mod Views
-pub mod Seen
+pub mod References

@@ -2,20 +2,29 @@
 use Rattle.std.proofs.Common.{◌≡◌, ℕ, zero, suc, ◌<◌, true, false, cond, List, [], ◌∷◌, ◌++◌, length, refl, ap, sym, ◌∙◌, arith}
 use Rattle.std.specs.Prelude.{◌&&◌, map, slice_index_or, slice_set}
 use Rattle.ss_base.specs.declared.types.Size.{Size}
+use Rattle.ss_base.specs.declared.types.Spot.{Spot}
+use Rattle.ss_base.specs.declared.types.Span.{Span}
+use Rattle.formula_tree.specs.Tree.{Tree, Trees, num, text, fault, cell, range, pre, bin, call, none, more, rename_tree, rename_trees}
+use Rattle.formula_tree.specs.Remap.{EachReference, EachReferences}
 use Rattle.sheet_ops.specs.declared.content.Content.{Content}
 use Rattle.sheet_ops.specs.declared.content.Content.TheVariants as content
 use Rattle.sheet_ops.specs.declared.content.Put.{Put}
 use Rattle.sheet_ops.specs.declared.operation.Effect.{Effect}
 use Rattle.sheet_ops.specs.declared.operation.Effect.TheVariants as effect
 use Rattle.sheet_ops.specs.LineIds.{LineId, id_eq}
-use Rattle.sheet_ops.specs.Lines.{Line, no_line, rec_at}
+use Rattle.sheet_ops.specs.Lines.{Line, no_line, place_where, rec_at, rec_place, slot_at, slot_place}
 use Rattle.sheet_ops.specs.Identity.{IdContent, IdSheet}
 use Rattle.sheet_ops.specs.Act.{put_at, puts_at}
-use Rattle.sheet_ops.specs.Naming.{resolve_put, locate_content, resolve_content, step}
+use Rattle.sheet_ops.specs.Naming.{resolve_cell, resolve_range, resolve_content, resolve_put, locate_cell, locate_range, locate_content, step}
 use Rattle.sheet_ops.specs.Placed.{placed, size_of}
-use Rattle.sheet_ops.specs.Fits.{Avoids, AreApart, PutsFit, EffectFits, IsWellFormed}
+use Rattle.sheet_ops.specs.Fits.{CellFits, RangeFits, ContentFits, Avoids, AreApart, PutsFit, EffectFits, IsWellFormed}
 use Rattle.sheet_ops.specs.Effects.{cell_written, cells_written, effect_on}
 use Rattle.sheet_ops.proofs.Ids.{id_eq-self, id_eq-other}
+
+apart_at : (of : Line → LineId) (ls : List Line) (p : ℕ) (id : LineId) → Avoids of ls id → p < length ls → id_eq (of (slice_index_or ls p no_line)) id ≡ false
+apart_at of [] p id v k = absurd (omega arith)
+apart_at of (m ∷ ls) zero id v k = v.0
+apart_at of (m ∷ ls) (suc p) id v k = apart_at of ls p id v.1 (omega arith)
 
 -- where two functions of lines differ at one line alone, their lists do so
 module _ {A : Type 0} (f g : Line → A) where
@@ -28,43 +37,90 @@ module _ {A : Type 0} (f g : Line → A) where
   map_at_one [] p apart k h x here = absurd (omega arith)
   map_at_one (l ∷ ls) zero apart k h x here = λ i. here l refl i ∷ away ls l.rec apart.0 h i
   map_at_one (l ∷ ls) (suc p) apart k h x here =
-      λ i. h l (id_eq-other (slice_index_or ls p no_line).rec l.rec (apart_at ls p apart.0 (omega arith))) i ∷ map_at_one ls p apart.1 (omega arith) h x here i
-    where
-      apart_at : (ls : List Line) (p : ℕ) → Avoids (λ m. m.rec) ls l.rec → p < length ls → id_eq (slice_index_or ls p no_line).rec l.rec ≡ false
-      apart_at [] p v k = absurd (omega arith)
-      apart_at (m ∷ ls) zero v k = v.0
-      apart_at (m ∷ ls) (suc p) v k = apart_at ls p v.1 (omega arith)
+      λ i. h l (id_eq-other (slice_index_or ls p no_line).rec l.rec (apart_at (λ m. m.rec) ls p l.rec apart.0 (omega arith))) i ∷ map_at_one ls p apart.1 (omega arith) h x here i
 
 pub index_map : {A : Type 0} (f : Line → A) (d : A) (ls : List Line) (p : ℕ) → p < length ls → slice_index_or (map f ls) p d ≡ f (slice_index_or ls p no_line)
 index_map f d [] p k = absurd (omega arith)
 index_map f d (l ∷ ls) zero k = refl
 index_map f d (l ∷ ls) (suc p) k = index_map f d ls p (omega arith)
 
--- a content resolved is located again as it was
-pub content_again : (X : IdSheet) (c : Content) → locate_content X (resolve_content X c) ≡ c
-content_again X content.Empty = refl
-content_again X (content.Num z) = refl
+-- the place of what stands at a position is that position
+place_again : (of : Line → LineId) (ls : List Line) (p : ℕ) → AreApart of ls → p < length ls → place_where (λ l. id_eq (of l) (of (slice_index_or ls p no_line))) ls ≡ p
+place_again of [] p apart k = absurd (omega arith)
+place_again of (l ∷ ls) zero apart k = rw (id_eq-self (of l)) refl
+place_again of (l ∷ ls) (suc p) apart k =
+    let other = id_eq-other (of (slice_index_or ls p no_line)) (of l) (apart_at of ls p (of l) apart.0 (omega arith)) in
+    rw other (ap suc (place_again of ls p apart.1 (omega arith)))
 
--- each cell is inside
+-- references renamed and renamed back
+module _ {C R D S : Type 0} (P : C → Type 0) (Q : R → Type 0) (f : C → D) (g : R → S) (f' : D → C) (g' : S → R) (cells : (c : C) → P c → f' (f c) ≡ c) (ranges : (r : R) → Q r → g' (g r) ≡ r) where
+  mutual
+    tree_again : (t : Tree C R) → EachReference P Q t → rename_tree f' g' (rename_tree f g t) ≡ t
+    tree_again (num n) h = refl
+    tree_again (text t) h = refl
+    tree_again (fault e) h = refl
+    tree_again (cell c) h = λ i. cell (cells c h i)
+    tree_again (range r) h = λ i. range (ranges r h i)
+    tree_again (pre op t) h = λ i. pre op (tree_again t h i)
+    tree_again (bin op s t) h = λ i. bin op (tree_again s h.0 i) (tree_again t h.1 i)
+    tree_again (call fun ts) h = λ i. call fun (trees_again ts h i)
+
+    trees_again : (ts : Trees C R) → EachReferences P Q ts → rename_trees f' g' (rename_trees f g ts) ≡ ts
+    trees_again none h = refl
+    trees_again (more t ts) h = λ i. more (tree_again t h.0 i) (trees_again ts h.1 i)
+
+-- a content resolved is located again as it was
+module _ (X : IdSheet) (ok : IsWellFormed X) where
+  row_again : (p : ℕ) → p < length X.rows.lines → rec_place X.rows (rec_at X.rows p) ≡ p
+  row_again p k = place_again (λ l. l.rec) X.rows.lines p ok.rows.recs k
+
+  col_again : (p : ℕ) → p < length X.cols.lines → rec_place X.cols (rec_at X.cols p) ≡ p
+  col_again p k = place_again (λ l. l.rec) X.cols.lines p ok.cols.recs k
+
+  row_slot_again : (p : ℕ) → p < length X.rows.lines → slot_place X.rows (slot_at X.rows p) ≡ p
+  row_slot_again p k = place_again (λ l. l.slot) X.rows.lines p ok.rows.slots k
+
+  col_slot_again : (p : ℕ) → p < length X.cols.lines → slot_place X.cols (slot_at X.cols p) ≡ p
+  col_slot_again p k = place_again (λ l. l.slot) X.cols.lines p ok.cols.slots k
+
+  cell_again : (s : Spot) → CellFits (size_of X) s → locate_cell X (resolve_cell X s) ≡ s
+  cell_again s h = λ i. record s { row = row_again s.row h.0 i; col = col_again s.col h.1 i }
+
+  range_again : (s : Span) → RangeFits (size_of X) s → locate_range X (resolve_range X s) ≡ s
+  range_again s h = λ i. record s {
+    top = row_slot_again s.top h.0.0 i;
+    left = col_slot_again s.left h.0.1 i;
+    bottom = row_slot_again s.bottom h.1.0 i;
+    right = col_slot_again s.right h.1.1 i;
+  }
+
+  pub content_again : (c : Content) → ContentFits (size_of X) c → locate_content X (resolve_content X c) ≡ c
+  content_again content.Empty f = refl
+  content_again (content.Num z) f = refl
+  content_again (content.Text t) f = refl
+  content_again (content.Formula t) f =
+      λ i. content.Formula (tree_again (CellFits (size_of X)) (RangeFits (size_of X)) (resolve_cell X) (resolve_range X) (locate_cell X) (locate_range X) cell_again range_again t f i)
+
+-- each cell is inside, and each reference in its content
 abbrev pub AllInside : Size → List Put → Type 0
 AllInside size [] = Unit {0}
-AllInside size (p ∷ ps) = (p.row < size.rows) × (p.col < size.cols) × AllInside size ps
+AllInside size (p ∷ ps) = (p.row < size.rows) × (p.col < size.cols) × ContentFits size p.content × AllInside size ps
 
 pub AllInside-fit : (size : Size) (ps : List Put) → PutsFit size ps → AllInside size ps
 AllInside-fit size [] f = tt
-AllInside-fit size (p ∷ ps) f = (f.0, f.1, AllInside-fit size ps f.4)
+AllInside-fit size (p ∷ ps) f = (f.0, f.1, f.2, AllInside-fit size ps f.4)
 
 pub AllInside-append : (size : Size) (ps qs : List Put) → AllInside size ps → AllInside size qs → AllInside size (ps ++ qs)
 AllInside-append size [] qs f g = g
-AllInside-append size (p ∷ ps) qs f g = (f.0, f.1, AllInside-append size ps qs f.2 g)
+AllInside-append size (p ∷ ps) qs f g = (f.0, f.1, f.2, AllInside-append size ps qs f.3 g)
 
 module _ (X : IdSheet) (ok : IsWellFormed X) where
   abbrev row_of : (LineId → LineId → IdContent) → Line → List Content
   row_of cells l = map (λ k. locate_content X (cells l.rec k.rec)) X.cols.lines
 
-  one_written : (cells : LineId → LineId → IdContent) (p : Put) → p.row < length X.rows.lines → p.col < length X.cols.lines →
+  one_written : (cells : LineId → LineId → IdContent) (p : Put) → p.row < length X.rows.lines → p.col < length X.cols.lines → ContentFits (size_of X) p.content →
       map (row_of (put_at cells (resolve_put X p))) X.rows.lines ≡ cell_written (map (row_of cells) X.rows.lines) p
-  one_written cells p r c =
+  one_written cells p r c fits =
       map_at_one (row_of cells) (row_of (put_at cells (resolve_put X p))) X.rows.lines p.row ok.rows.recs r other (slice_set (slice_index_or (map (row_of cells) X.rows.lines) p.row []) p.col p.content) here
     where
       other : (l : Line) → id_eq l.rec (rec_at X.rows p.row) ≡ false → row_of (put_at cells (resolve_put X p)) l ≡ row_of cells l
@@ -82,13 +138,13 @@ module _ (X : IdSheet) (ok : IsWellFormed X) where
           beside k h = λ i. locate_content X (cond (same i && id_eq-other k.rec (rec_at X.cols p.col) h i) (resolve_content X p.content) (cells l.rec k.rec))
 
           at : (k : Line) → slice_index_or X.cols.lines p.col no_line ≡ k → locate_content X (put_at cells (resolve_put X p) l.rec k.rec) ≡ p.content
-          at k h = (λ i. locate_content X (cond (same i && (ap (λ (m : Line). id_eq m.rec k.rec) h ∙ id_eq-self k.rec) i) (resolve_content X p.content) (cells l.rec k.rec))) ∙ content_again X p.content
+          at k h = (λ i. locate_content X (cond (same i && (ap (λ (m : Line). id_eq m.rec k.rec) h ∙ id_eq-self k.rec) i) (resolve_content X p.content) (cells l.rec k.rec))) ∙ content_again X ok p.content fits
 
   -- so many cells written by identity are so many written by positions
   pub placed-puts_at : (cells : LineId → LineId → IdContent) (ps : List Put) → AllInside (size_of X) ps →
       map (row_of (puts_at cells (map (resolve_put X) ps))) X.rows.lines ≡ cells_written (map (row_of cells) X.rows.lines) ps
   placed-puts_at cells [] f = refl
-  placed-puts_at cells (p ∷ ps) f = placed-puts_at (put_at cells (resolve_put X p)) ps f.2 ∙ ap (λ (rows : List (List Content)). cells_written rows ps) (one_written cells p f.0 f.1)
+  placed-puts_at cells (p ∷ ps) f = placed-puts_at (put_at cells (resolve_put X p)) ps f.3 ∙ ap (λ (rows : List (List Content)). cells_written rows ps) (one_written cells p f.0 f.1 f.2)
 
 -- the position step of an effect, seen by positions
 pub placed-step : (X : IdSheet) (e : Effect) (id : LineId) → IsWellFormed X → EffectFits (size_of X) e → placed (step X e id) ≡ effect_on (placed X) e

@@ -1,7 +1,10 @@
 -- Which operations fit a sheet of a size, and which sheets are well formed.
-use Rattle.std.specs.Prelude.{◌≡◌, ◌<◌, ◌≤◌, ◌&&◌, nat_eq, Bool, false, List, [], ◌∷◌, length}
+use Rattle.std.specs.Prelude.{ℕ, ◌≡◌, ◌<◌, ◌≤◌, ◌&&◌, nat_eq, Bool, false, List, [], ◌∷◌, length}
 use Rattle.std.specs.List.{list_any}
 use Rattle.ss_base.specs.declared.types.Size.{Size}
+use Rattle.ss_base.specs.declared.types.Spot.{Spot}
+use Rattle.ss_base.specs.declared.types.Span.{Span}
+use Rattle.formula_tree.specs.Remap.{EachReference}
 use Rattle.sheet_ops.specs.declared.content.Content.{Content}
 use Rattle.sheet_ops.specs.declared.content.Content.TheVariants as content
 use Rattle.sheet_ops.specs.declared.content.Put.{Put}
@@ -13,10 +16,22 @@ use Rattle.sheet_ops.specs.LineIds.{LineId, id_eq}
 use Rattle.sheet_ops.specs.Lines.{Line, Axis}
 use Rattle.sheet_ops.specs.Identity.{IdSheet}
 
--- each reference in a content is inside; a number has none
+-- a place is inside, and so are a reference to a cell and one to a range
+abbrev pub IsInside : Size → ℕ → ℕ → Type 0
+IsInside size row col = (row < size.rows) × (col < size.cols)
+
+abbrev pub CellFits : Size → Spot → Type 0
+CellFits size s = IsInside size s.row s.col
+
+abbrev pub RangeFits : Size → Span → Type 0
+RangeFits size s = IsInside size s.top s.left × IsInside size s.bottom s.right
+
+-- each reference in a content is inside
 abbrev pub ContentFits : Size → Content → Type 0
 ContentFits size content.Empty = Unit {0}
 ContentFits size (content.Num z) = Unit {0}
+ContentFits size (content.Text t) = Unit {0}
+ContentFits size (content.Formula t) = EachReference (CellFits size) (RangeFits size) t
 
 abbrev pub same_cell : Put → Put → Bool
 same_cell p q = nat_eq p.row q.row && nat_eq p.col q.col

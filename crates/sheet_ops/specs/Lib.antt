@@ -5,7 +5,7 @@ pub mod Act
 pub mod Naming
 pub mod Placed
 pub mod Fits
+pub mod Weights
+pub mod Numerals
 pub mod History
-pub mod Shown
 pub mod Effects
-pub mod Edits

@@ -32,6 +32,10 @@ place_where test (x ∷ xs) = if test x then 0 else suc (place_where test xs)
 abbrev pub rec_place : Axis → LineId → ℕ
 rec_place axis id = place_where (λ l. id_eq l.rec id) axis.lines
 
+-- the position of a slot; of one that isn't there, the length
+abbrev pub slot_place : Axis → LineId → ℕ
+slot_place axis id = place_where (λ l. id_eq l.slot id) axis.lines
+
 -- what a position past the end is said to be
 abbrev pub no_line : Line
 no_line = new_line (opening_id 0)
@@ -39,6 +43,10 @@ no_line = new_line (opening_id 0)
 -- the record that stands at a position
 abbrev pub rec_at : Axis → ℕ → LineId
 rec_at axis position = (slice_index_or axis.lines position no_line).rec
+
+-- the slot that is at a position
+abbrev pub slot_at : Axis → ℕ → LineId
+slot_at axis position = (slice_index_or axis.lines position no_line).slot
 
 -- per position, whether the record that stands there is dead
 abbrev pub marks : Axis → List Bool

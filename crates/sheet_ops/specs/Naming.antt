@@ -8,8 +8,11 @@ use Rattle.sheet_ops.specs.declared.operation.Intent.TheVariants as intent
 use Rattle.sheet_ops.specs.declared.operation.Effect.{Effect}
 use Rattle.sheet_ops.specs.declared.operation.Effect.TheVariants as effect
 use Rattle.sheet_ops.specs.LineIds.{LineId}
-use Rattle.sheet_ops.specs.Lines.{rec_place, rec_at}
-use Rattle.sheet_ops.specs.Identity.{IdContent, blank, number, IdPut, IdOp, write, IdSheet}
+use Rattle.ss_base.specs.declared.types.Spot.{Spot}
+use Rattle.ss_base.specs.declared.types.Span.{Span}
+use Rattle.formula_tree.specs.Tree.{rename_tree}
+use Rattle.sheet_ops.specs.Lines.{rec_place, rec_at, slot_place, slot_at}
+use Rattle.sheet_ops.specs.Identity.{IdCell, IdRange, IdContent, blank, number, text, formula, IdPut, IdOp, write, IdSheet}
 use Rattle.sheet_ops.specs.Act.{puts_at}
 
 -- how many operations an intent counts for
@@ -17,13 +20,48 @@ abbrev pub operations_of : Intent → ℕ
 operations_of (intent.Write ps) = 1
 
 module _ (X : IdSheet) where
+  -- A reference to a cell means the records that stand at its positions, and one to a range the slots of its ends.
+  abbrev pub resolve_cell : Spot → IdCell
+  resolve_cell s = record { row = rec_at X.rows s.row; col = rec_at X.cols s.col; abs_row = s.abs_row; abs_col = s.abs_col }
+
+  abbrev pub resolve_range : Span → IdRange
+  resolve_range s = record {
+    top = slot_at X.rows s.top;
+    left = slot_at X.cols s.left;
+    bottom = slot_at X.rows s.bottom;
+    right = slot_at X.cols s.right;
+    abs_top = s.abs_top;
+    abs_left = s.abs_left;
+    abs_bottom = s.abs_bottom;
+    abs_right = s.abs_right;
+  }
+
   abbrev pub resolve_content : Content → IdContent
   resolve_content content.Empty = blank
   resolve_content (content.Num z) = number z
+  resolve_content (content.Text t) = text t
+  resolve_content (content.Formula t) = formula (rename_tree resolve_cell resolve_range t)
+
+  abbrev pub locate_cell : IdCell → Spot
+  locate_cell c = record { row = rec_place X.rows c.row; col = rec_place X.cols c.col; abs_row = c.abs_row; abs_col = c.abs_col }
+
+  abbrev pub locate_range : IdRange → Span
+  locate_range r = record {
+    top = slot_place X.rows r.top;
+    left = slot_place X.cols r.left;
+    bottom = slot_place X.rows r.bottom;
+    right = slot_place X.cols r.right;
+    abs_top = r.abs_top;
+    abs_left = r.abs_left;
+    abs_bottom = r.abs_bottom;
+    abs_right = r.abs_right;
+  }
 
   abbrev pub locate_content : IdContent → Content
   locate_content blank = content.Empty
   locate_content (number z) = content.Num z
+  locate_content (text t) = content.Text t
+  locate_content (formula t) = content.Formula (rename_tree locate_cell locate_range t)
 
   -- each position becomes what stands there
   abbrev pub resolve_put : Put → IdPut

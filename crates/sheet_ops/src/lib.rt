@@ -4,8 +4,10 @@
 
 mod content;
 mod edit;
+mod numeral;
 mod operation;
 
 pub use content::{Content, Put};
 pub use edit::{Edit, EditErr};
+pub use numeral::is_numeral;
 pub use operation::{Effect, Entry, Intent};

@@ -1,5 +1,6 @@
-ghost use Rattle.std.specs.Prelude.{◌≡◌, IfOk};
+ghost use Rattle.std.specs.Prelude.{◌≡◌, ◌+◌, ◌-◌, ◌^◌, min, sum_by, IfOk};
 ghost use Rattle.sheet_ops.specs.Naming.{effect_of_intent};
+ghost use Rattle.sheet_ops.specs.Weights.{weight_of_content, weight_of_intent};
 
 use crate::content::Put;
 use ss_base::{Memory, Seq, Site};
@@ -40,7 +41,30 @@ fn copy_puts(puts: &Seq<Put>) -> Result<Seq<Put>, Memory>
     Ok(copies)
 }
 
+/// The weight of a write of these cells; 2^32 - 1 stands for all above it.
+fn weight_of_puts(puts: &[Put]) -> u32
+    ensures { result ≡ min (sum_by (λ p. 1 + weight_of_content p.content) puts.now) (2 ^ 32 - 1) }
+{
+    let mut total = 0u32;
+    for put in puts {
+        total = total
+            .saturating_add(put.content.weight())
+            .saturating_add(1);
+    }
+    total
+}
+
 impl Intent {
+    /// The weight of the operation: for each cell that it writes 1 and the weight of the content;
+    /// 2^32 - 1 stands for all above it.
+    pub fn weight(&self) -> u32
+        ensures { result ≡ min (weight_of_intent self.now) (2 ^ 32 - 1) }
+    {
+        match self {
+            Intent::Write(puts) => weight_of_puts(puts.as_slice()),
+        }
+    }
+
     /// An equal intent.
     pub fn copy(&self) -> Result<Intent, Memory>
         ensures { IfOk result (λ i. i ≡ self.now) }

@@ -10,7 +10,7 @@ use Rattle.sheet_ops.specs.declared.content.Content.{Content}
 use Rattle.sheet_ops.specs.declared.content.Content.TheVariants as content
 use Rattle.sheet_ops.specs.Lines.{visible_from, visible_places}
 use Rattle.sheet_ops.specs.Placed.{PlacedSheet, cell_at}
-use Rattle.sheet_ops.specs.Shown.{shown_text}
+use Rattle.sheet_text.specs.Shown.{shown_text}
 use Rattle.sheet_grid.specs.Cells.{visible_index}
 use Rattle.sheet_text.specs.Texts.{cell_line, row_lines, lines_from}
 use Rattle.sheet_text.specs.Rows.{line_if_seen, rest_of_row}

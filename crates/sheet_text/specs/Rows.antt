@@ -2,7 +2,7 @@
 use Rattle.std.specs.Prelude.{ℕ, List, [], map, drop, take, length, Option, None, Some}
 use Rattle.sheet_ops.specs.Lines.{visible_from, visible_places}
 use Rattle.sheet_ops.specs.Placed.{PlacedSheet, cell_at}
-use Rattle.sheet_ops.specs.Shown.{shown_text}
+use Rattle.sheet_text.specs.Shown.{shown_text}
 use Rattle.sheet_text.specs.Texts.{cell_line, row_lines}
 
 -- the line of a cell by the visible index of its column, if it has one

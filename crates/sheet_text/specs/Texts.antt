@@ -3,7 +3,7 @@ use Rattle.std.specs.Prelude.{ℕ, suc, List, [], ◌∷◌, ◌++◌, codes, de
 use Rattle.cell_addr.specs.Cells.{address}
 use Rattle.sheet_ops.specs.declared.edit.EditErr.{EditErr}
 use Rattle.sheet_ops.specs.declared.edit.EditErr.TheVariants as fault
-use Rattle.sheet_ops.specs.Shown.{ShownSheet}
+use Rattle.sheet_text.specs.Shown.{ShownSheet}
 
 -- the line of a cell, by its visible row and column: its address, a space, its text and a line feed; an empty cell has
 -- none
@@ -38,6 +38,9 @@ head_text name taken pending S =
 -- why an edit was refused, in a word; want of memory is never printed
 abbrev pub cause_text : EditErr → List ℕ
 cause_text fault.OutOfSheet = codes "outside"
+cause_text (fault.BadFormula p) = codes "at " ++ decimal p
+cause_text fault.Deep = codes "deep"
+cause_text (fault.Heavy w) = codes "heavy " ++ decimal w
 cause_text fault.Spent = codes "spent"
 cause_text fault.Memory = []
 

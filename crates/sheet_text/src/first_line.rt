@@ -1,6 +1,6 @@
 ghost use Rattle.std.specs.Prelude.{◌≡◌, ◌≢◌, IfOk};
 ghost use Rattle.sheet_ops.specs.declared.edit.EditErr.TheVariants as fault;
-ghost use Rattle.sheet_ops.specs.Shown.{shown_placed};
+ghost use Rattle.sheet_text.specs.Shown.{shown_placed};
 ghost use Rattle.sheet_text.specs.Texts.{cause_text, head_text, refusal_text};
 
 use sheet_grid::Sheet;
@@ -37,19 +37,23 @@ pub fn refusal(alloc: Global, line: u32, cause: EditErr) -> Result<Txt, Memory>
     requires { cause ≢ fault.Memory }
     ensures { IfOk result (λ t. t ≡ refusal_text line cause) }
 {
-    let cause = word(cause);
+    let cause = words(alloc, cause)?;
     let text = format!(in alloc; "refused {line} {cause}\n")?;
     Ok(Txt::from_vec(text.into_bytes()))
 }
 
-/// Why an edit was refused, in a word.
-fn word(cause: EditErr) -> &'static str
+/// Why an edit was refused.
+fn words(alloc: Global, cause: EditErr) -> Result<String, Memory>
     requires { cause ≢ fault.Memory }
-    ensures { result.now ≡ cause_text cause }
+    ensures { IfOk result (λ t. t ≡ cause_text cause) }
 {
-    match cause {
-        EditErr::OutOfSheet => "outside",
-        EditErr::Spent => "spent",
+    let words = match cause {
+        EditErr::OutOfSheet => format!(in alloc; "outside")?,
+        EditErr::BadFormula(front) => format!(in alloc; "at {front}")?,
+        EditErr::Deep => format!(in alloc; "deep")?,
+        EditErr::Heavy(weight) => format!(in alloc; "heavy {weight}")?,
+        EditErr::Spent => format!(in alloc; "spent")?,
         EditErr::Memory => unreachable!(),
-    }
+    };
+    Ok(words)
 }

@@ -1,6 +1,7 @@
 //! The texts that are printed of a sheet: its cells, the line above them, and refusals.
 #![tactic(auto)]
 
+mod content;
 mod first_line;
 mod lines;
 

@@ -1,14 +1,14 @@
 ghost use Rattle.std.specs.Prelude.{◌≡◌, ◌<◌, ◌≤◌, ◌++◌, length, map, IfOk, OnOk};
-ghost use Rattle.std.specs.Fmt.{signed_decimal};
 ghost use Rattle.sheet_ops.specs.Lines.{visible_places};
 ghost use Rattle.sheet_ops.specs.Placed.{cell_at};
-ghost use Rattle.sheet_ops.specs.Shown.{shown_placed, shown_text};
+ghost use Rattle.sheet_text.specs.Shown.{shown_placed, shown_text};
 ghost use Rattle.sheet_grid.specs.Cells.{visible_index};
 ghost use Rattle.sheet_text.specs.Texts.{cell_line, row_lines, sheet_text};
 ghost use Rattle.sheet_text.specs.Rows.{line_if_seen};
 
+use crate::content::text_of;
 use cell_addr::letters_of;
-use sheet_grid::{Kind, Sheet};
+use sheet_grid::Sheet;
 use ss_base::{Memory, Txt};
 use std::alloc::Global;
 
@@ -63,28 +63,34 @@ fn push_if_seen(
     requires col { col < length sheet.now.cols }
     ensures { OnOk result (out.new.items ≡ out.old.items ++ line_if_seen visible (visible_index sheet.now.cols col) (shown_text sheet.now (cell_at sheet.now row col))) }
 {
-    match (sheet.col_seen(col), sheet.kind(row, col)) {
-        (Some(seen), Kind::Num(number)) => push_cell(alloc, out, visible, seen, number),
-        (Some(_), Kind::Empty) | (None, _) => Ok(()),
-    }
+    let Some(seen) = sheet.col_seen(col) else {
+        return Ok(());
+    };
+    let text = text_of(alloc, sheet, sheet.content(row, col)?)?;
+    push_cell(alloc, out, visible, seen, text.bytes())
 }
 
-/// Appends the line of a number by its visible row and column.
+/// Appends the line of a text by its visible row and column; an empty text has none.
 fn push_cell(
     alloc: Global,
     out: &mut Vec<u8>,
     row: u32,
     col: u32,
-    number: i64,
+    text: &[u8],
 ) -> Result<(), Memory>
     requires row { row < 16000 }
     requires col { col < 16000 }
-    ensures { OnOk result (out.new.items ≡ out.old.items ++ cell_line row col (signed_decimal number)) }
+    ensures { OnOk result (out.new.items ≡ out.old.items ++ cell_line row col text.now) }
 {
+    if text.is_empty() {
+        return Ok(());
+    }
     let mut letters = [0; 4];
     let count = letters_of(col, &mut letters);
-    let rest = format!(in alloc; "{} {number}\n", row + 1)?;
+    let number = format!(in alloc; "{} ", row + 1)?;
     out.extend_from_slice(&letters[..count])?;
-    out.extend_from_slice(rest.as_bytes())?;
+    out.extend_from_slice(number.as_bytes())?;
+    out.extend_from_slice(text)?;
+    out.push(b'\n')?;
     Ok(())
 }

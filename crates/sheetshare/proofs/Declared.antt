@@ -1,14 +1,16 @@
 -- What stays declared, and what a desk may say.
-use Rattle.std.proofs.Common.{◌≡◌, ℕ, zero, suc, ◌+◌, ◌-◌, Bool, true, false, cond, List, [], ◌∷◌, ◌++◌, length, refl, ap, sym, ◌∙◌, subst, arith, Some, None, Option, Ok, Err}
+use Rattle.std.proofs.Common.{◌≡◌, ℕ, zero, suc, ◌+◌, ◌-◌, ◌^◌, ◌<◌, ◌≤◌, Bool, true, false, cond, List, [], ◌∷◌, ◌++◌, length, refl, ap, sym, ◌∙◌, subst, arith, Some, None, Option, Ok, Err}
 use Rattle.std.specs.Prelude.{map, slice_set, slice_index_or, nat_le, nat_lt, ◌&&◌, ◌||◌, ◌≢◌, not, OnOk, OnErr, IfErr, Result, option_map, is_some, codes}
 use Rattle.std.specs.List.{list_all, join_with_byte}
 use Rattle.std.specs.Str.{bytes_eq}
 use Rattle.std.proofs.lemmas.Bool.Decides.{nat_tests}
+use Rattle.std.proofs.lemmas.List.{length-append}
+use Rattle.std.proofs.lemmas.List.Splits.{join_with_byte-slice_split}
 use Rattle.ss_base.specs.declared.types.Size.{Size}
 use Rattle.ss_base.specs.declared.types.Spot.{Spot}
 use Rattle.script_read.specs.declared.command.Command.{Command}
 use Rattle.script_read.specs.declared.command.Command.TheVariants as command
-use Rattle.script_read.specs.Commands.{command_of, is_note, sheet_of, push_of, pull_of, plain_cell, set_of, of_one_word, of_two_words, of_three_words, of_more_words, of_words}
+use Rattle.script_read.specs.Commands.{command_of, is_note, sheet_of, push_of, pull_of, plain_cell, set_of, clear_of, of_one_word, of_two_words, of_three_words, of_more_words, of_words}
 use Rattle.script_read.specs.Words.{is_printable, words, named}
 use Rattle.cell_addr.specs.Cells.{cell_of}
 use Rattle.cell_addr.specs.Rows.{counted}
@@ -60,7 +62,7 @@ IsDesk-open w sheet closed s c = record {
   new = λ e. absurd (let clash : true ≡ false = sym c ∙ e in cc);
 }
 
--- a command that a line may be has a sheet of an allowed size
+-- a command that a line may be has a sheet of an allowed size, or an entry that isn't too long
 abbrev IsGood : Option Command → Type 0
 IsGood None = Unit {0}
 IsGood (Some c) = IsWithin c
@@ -93,10 +95,16 @@ good_pull None count = tt
 good_pull (Some name) None = tt
 good_pull (Some name) (Some n) = tt
 
-good_set : (name : Option (List ℕ)) (spot : Option Spot) (entry : List ℕ) → IsGood (set_of name spot entry)
-good_set None spot entry = tt
-good_set (Some name) None entry = tt
-good_set (Some name) (Some spot) entry = good_if _ (Some (command.Edit name (edit.Set spot entry))) None tt tt
+good_set : (name : Option (List ℕ)) (spot : Option Spot) (entry : List ℕ) → length entry < 2 ^ 24 → IsGood (set_of name spot entry)
+good_set None spot entry h = tt
+good_set (Some name) None entry h = tt
+good_set (Some name) (Some spot) [] h = tt
+good_set (Some name) (Some spot) (b ∷ entry) h = h
+
+good_clear : (name : Option (List ℕ)) (spot : Option Spot) → IsGood (clear_of name spot)
+good_clear None spot = tt
+good_clear (Some name) None = tt
+good_clear (Some name) (Some spot) = tt
 
 good_one : (a : List ℕ) → IsGood (of_one_word a)
 good_one a = good_if (bytes_eq a (codes "end")) (Some command.End) None tt tt
@@ -114,23 +122,31 @@ good_three : (a b c : List ℕ) → IsGood (of_three_words a b c)
 good_three a b c =
     good_if (bytes_eq a (codes "sheet")) _ _ (good_sheet (counted b) (counted c))
     (good_if (bytes_eq b (codes "push")) _ _ (good_push (named a) (counted c))
-    (good_if (bytes_eq b (codes "pull")) _ None (good_pull (named a) (counted c)) tt))
+    (good_if (bytes_eq b (codes "pull")) _ _ (good_pull (named a) (counted c))
+    (good_if (bytes_eq b (codes "clear")) _ None (good_clear (named a) (plain_cell (cell_of c))) tt)))
 
-good_more : (a b c entry : List ℕ) → IsGood (of_more_words a b c entry)
-good_more a b c entry = good_if (bytes_eq b (codes "set")) _ None (good_set (named a) (plain_cell (cell_of c)) entry) tt
+good_more : (a b c entry : List ℕ) → length entry < 2 ^ 24 → IsGood (of_more_words a b c entry)
+good_more a b c entry h = good_if (bytes_eq b (codes "set")) _ None (good_set (named a) (plain_cell (cell_of c)) entry h) tt
 
-good_words : (ws : List (List ℕ)) → IsGood (of_words ws)
-good_words [] = tt
-good_words (a ∷ []) = good_one a
-good_words (a ∷ b ∷ []) = good_two a b
-good_words (a ∷ b ∷ c ∷ []) = good_three a b c
-good_words (a ∷ b ∷ c ∷ d ∷ ds) = good_more a b c (join_with_byte 32 (d ∷ ds))
+-- a line is longer than what stands behind its first word
+behind_shorter : (word next : List ℕ) (others : List (List ℕ)) → length (join_with_byte 32 (next ∷ others)) ≤ length (join_with_byte 32 (word ∷ next ∷ others))
+behind_shorter word next others = let l = length-append word (32 ∷ join_with_byte 32 (next ∷ others)) in omega (arith, l)
 
-good_line : (line : List ℕ) → IsGood (command_of line)
-good_line line = good_if (list_all is_printable line) _ None (good_if (is_note line) (Some command.Note) _ tt (good_words (words line))) tt
+good_words : (ws : List (List ℕ)) → length (join_with_byte 32 ws) < 2 ^ 24 → IsGood (of_words ws)
+good_words [] h = tt
+good_words (a ∷ []) h = good_one a
+good_words (a ∷ b ∷ []) h = good_two a b
+good_words (a ∷ b ∷ c ∷ []) h = good_three a b c
+good_words (a ∷ b ∷ c ∷ d ∷ ds) h =
+    good_more a b c (join_with_byte 32 (d ∷ ds)) (omega (arith, h, behind_shorter a b (c ∷ d ∷ ds), behind_shorter b c (d ∷ ds), behind_shorter c d ds))
 
-pub within-line : (line : List ℕ) (c : Command) → command_of line ≡ Some c → IsWithin c
-within-line line c e = subst (λ (o : Option Command). IsGood o) e (good_line line)
+good_line : (line : List ℕ) → length line < 2 ^ 24 → IsGood (command_of line)
+good_line line h =
+    good_if (list_all is_printable line) _ None
+    (good_if (is_note line) (Some command.Note) _ tt (good_words (words line) (subst (λ (bs : List ℕ). length bs < 2 ^ 24) (sym (join_with_byte-slice_split 32 line)) h))) tt
+
+pub within-line : (line : List ℕ) (c : Command) → length line < 2 ^ 24 → command_of line ≡ Some c → IsWithin c
+within-line line c h e = subst (λ (o : Option Command). IsGood o) e (good_line line h)
 
 -- a line of a site that is declared, and one of a site that isn't
 pub by_site-goes : (d : Declared) (n : ℕ) (name : List ℕ) (c : Command) → d.sheet ≡ true → is_declared d name ≡ true → by_site d n name c ≡ goes (record d { closed = true }) c

@@ -1,4 +1,4 @@
--- What an edit denotes fits the sheet on which it was made.
+-- Edits that are done, and those that are refused because the operations are spent.
 use Rattle.std.proofs.Common.{◌≡◌, ℕ, zero, suc, ◌+◌, ◌<◌, ◌≤◌, Bool, true, false, cond, List, [], ◌∷◌, length, refl, subst, arith, Some, None, Option, Ok, Err}
 use Rattle.std.specs.Prelude.{nat_lt, slice_get, Result}
 use Rattle.std.proofs.lemmas.Bool.Decides.{nat_tests}
@@ -17,32 +17,7 @@ use Rattle.sheet_ops.specs.Lines.{visible_from, visible_places}
 use Rattle.sheet_ops.specs.Naming.{operations_of, effect_of_intent}
 use Rattle.sheet_ops.specs.Placed.{PlacedSheet, placed_size}
 use Rattle.sheet_ops.specs.History.{operations}
-use Rattle.sheet_ops.specs.Edits.{intended_by, write_one, entered}
 use Rattle.sheetshare.specs.World.{unless_spent}
-
--- a visible position is one of the list
-visible_below : (first : ℕ) (ms : List Bool) (i p : ℕ) → slice_get (visible_from first ms) i ≡ Some p → p < first + length ms
-visible_below first [] i p e = absurd (cc)
-visible_below first (true ∷ ms) i p e = let h = visible_below (suc first) ms i p e in omega arith
-visible_below first (false ∷ ms) zero p e = let same : first ≡ p = cc in omega arith
-visible_below first (false ∷ ms) (suc i) p e = let h = visible_below (suc first) ms i p e in omega arith
-
-write_one-fits : (P : PlacedSheet) (row col : Option ℕ) (what : Content) (op : Intent) → write_one row col what ≡ Ok op →
-    ((p : ℕ) → row ≡ Some p → p < length P.rows) → ((p : ℕ) → col ≡ Some p → p < length P.cols) → IntentFits (placed_size P) op
-write_one-fits P None col what op e r c = absurd (cc)
-write_one-fits P (Some row) None what op e r c = absurd (cc)
-write_one-fits P (Some row) (Some col) what op e r c =
-    let same : intent.Write (record { row = row; col = col; content = what } ∷ []) ≡ op = cc in
-    subst (λ (x : Intent). IntentFits (placed_size P) x) same (omega arith, omega arith, (r row refl, c col refl, content_fits what, refl, tt))
-  where
-    content_fits : (x : Content) → ContentFits (placed_size P) x
-    content_fits content.Empty = tt
-    content_fits (content.Num z) = tt
-
-pub intended-fits : (P : PlacedSheet) (e : Edit) (op : Intent) → intended_by P.rows P.cols e ≡ Ok op → IntentFits (placed_size P) op
-intended-fits P (edit.Set spot entry) op e =
-    write_one-fits P (slice_get (visible_places P.rows) spot.row) (slice_get (visible_places P.cols) spot.col) (entered entry) op e
-    (λ p k. let h = visible_below 0 P.rows spot.row p k in omega arith) (λ p k. let h = visible_below 0 P.cols spot.col p k in omega arith)
 
 pub effect-fits : (P : PlacedSheet) (op : Intent) → IntentFits (placed_size P) op → EffectFits (placed_size P) (effect_of_intent op)
 effect-fits P (intent.Write ps) f = (f.1, f.2)

@@ -13,7 +13,7 @@ use Rattle.sheet_ops.specs.Fits.{IntentFits, EffectFits}
 use Rattle.sheet_ops.specs.Naming.{effect_of_intent}
 use Rattle.sheet_ops.specs.Placed.{PlacedSheet, placed, placed_size}
 use Rattle.sheet_ops.specs.History.{view, own_entries, operations}
-use Rattle.sheet_ops.specs.Edits.{intended, intended_by}
+use Rattle.author_ops.specs.Edits.{intended, intended_by}
 use Rattle.sheetshare.specs.declared.replica.Replica.{Replica}
 use Rattle.sheetshare.specs.Replicas as replica
 use Rattle.sheetshare.specs.Runs.{EachOf, Represents, EachRepresents, IsRun, seat_of, world_of}
@@ -21,11 +21,12 @@ use Rattle.sheetshare.specs.World.{Seat, new_seat, seat_at, put_seat, view_at, p
 use Rattle.sheetshare.proofs.Entries.{EachFits-append, EachFits-at, EachOf-at, within-at, drop-at}
 use Rattle.ss_base.specs.declared.types.Site.{Site}
 use Rattle.sheet_ops.specs.Identity.{opened}
-use Rattle.sheet_ops.specs.Shown.{shown, shown_placed}
-use Rattle.sheet_ops.proofs.Seen.{shown-placed}
+use Rattle.sheet_text.specs.Shown.{shown, shown_placed}
+use Rattle.sheet_text.proofs.Seen.{shown-placed}
 use Rattle.sheet_text.specs.Texts.{sheet_text, head_text}
 use Rattle.sheetshare.specs.Transcript.{show_text}
-use Rattle.sheetshare.proofs.Intended.{accepted, intended-fits, operations-length}
+use Rattle.author_ops.proofs.Intended.{intended-fits}
+use Rattle.sheetshare.proofs.Intended.{accepted, operations-length}
 use Rattle.sheetshare.proofs.Outcomes.{on_ok, both_ways}
 use Rattle.sheetshare.proofs.Standing.{sheet_size, held_le, sees, issued, took, beside, pushed_one}
 

@@ -45,7 +45,8 @@ abbrev pub TextOf : Result (Unit {0}) EditErr → ℕ → List ℕ → Type 0
 TextOf (Ok done) n text = text ≡ []
 TextOf (Err e) n text = (e ≢ fault.Memory) × (text ≡ refusal_text n e)
 
--- a sheet is no larger than it may be
+-- a sheet is no larger than it may be, and an entry no longer
 abbrev pub IsWithin : Command → Type 0
 IsWithin (command.Sheet size) = (size.rows ≤ 1000) × (size.cols ≤ 64)
+IsWithin (command.Edit name e) = IsShort e
 IsWithin c = Unit {0}

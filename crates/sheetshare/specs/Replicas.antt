@@ -10,10 +10,15 @@ use Rattle.sheet_ops.specs.declared.operation.Effect.TheVariants as effect
 use Rattle.sheet_ops.specs.Naming.{effect_of_intent}
 use Rattle.sheet_ops.specs.History.{operations}
 use Rattle.sheet_ops.specs.Effects.{effect_on, puts_of, written, uncovered}
-use Rattle.sheet_ops.specs.Edits.{intended_by}
+use Rattle.author_ops.specs.Edits.{intended_by}
 use Rattle.sheet_ops.specs.Placed.{PlacedSheet}
 use Rattle.sheetshare.specs.declared.replica.Replica.{Replica}
 use Rattle.sheetshare.specs.World.{unless_spent}
+
+-- an entry is so short that it can be read
+abbrev pub IsShort : Edit → Type 0
+IsShort (edit.Set spot entry) = length entry < 2 ^ 24
+IsShort (edit.Clear spot) = Unit {0}
 
 -- the own entries that are not acknowledged
 abbrev pub pending : Replica → List Entry

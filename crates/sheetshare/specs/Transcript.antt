@@ -2,7 +2,7 @@
 use Rattle.std.specs.Prelude.{ℕ, List, [], ◌∷◌, ◌++◌, Result, Ok, Err}
 use Rattle.sheet_ops.specs.declared.edit.EditErr.{EditErr}
 use Rattle.sheet_ops.specs.declared.operation.Intent.{Intent}
-use Rattle.sheet_ops.specs.Shown.{shown}
+use Rattle.sheet_text.specs.Shown.{shown}
 use Rattle.script_read.specs.declared.command.Command.{Command}
 use Rattle.script_read.specs.declared.command.Command.TheVariants as command
 use Rattle.sheet_text.specs.Texts.{sheet_text, head_text, refusal_text}

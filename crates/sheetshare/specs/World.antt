@@ -9,7 +9,7 @@ use Rattle.sheet_ops.specs.declared.operation.Entry.{Entry}
 use Rattle.sheet_ops.specs.declared.operation.Intent.{Intent}
 use Rattle.sheet_ops.specs.Identity.{IdSheet}
 use Rattle.sheet_ops.specs.History.{own_entries, operations, view}
-use Rattle.sheet_ops.specs.Edits.{intended}
+use Rattle.author_ops.specs.Edits.{intended}
 use Rattle.script_read.specs.declared.command.Command.{Command}
 use Rattle.script_read.specs.declared.command.Command.TheVariants as command
 

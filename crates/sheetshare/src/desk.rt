@@ -3,6 +3,7 @@ ghost use Rattle.script_read.specs.declared.command.Command.{Command};
 ghost use Rattle.script_read.specs.declared.command.Command.TheVariants as command;
 ghost use Rattle.script_read.specs.Script.{Declared, LineTurn, goes, stops, refused, by_site, turn_of, is_declared};
 ghost use Rattle.sheetshare.specs.World.{place_of};
+ghost use Rattle.sheetshare.specs.Replicas.{IsShort};
 ghost use Rattle.sheetshare.specs.Desks.{Table, first_table, CommandGives, TurnGives, IsWithin, TextOf};
 
 use crate::run::Run;
@@ -84,6 +85,7 @@ impl Desk {
 
     /// Does what the line with this number says.
     pub fn turn(&mut self, alloc: Global, number: u32, line: &[u8]) -> Result<Outcome, Memory>
+        requires { length line.now ≤ 4096 }
         ensures { IfOk result (λ o. TurnGives self.old self.new number line.now o) }
     {
         match read_command(alloc, line) {
@@ -183,6 +185,7 @@ impl Desk {
         name: &Txt,
         edit: &Edit,
     ) -> Result<Outcome, Memory>
+        requires { IsShort edit.now }
         ensures { IfOk result (λ o. CommandGives self.old self.new number (command.Edit name.now edit.now) o) }
     {
         let place = match self.admit(number, name) {

@@ -4,7 +4,7 @@ ghost use Rattle.sheet_ops.specs.Fits.{EffectFits, PutsFit, writes_cell};
 ghost use Rattle.sheet_ops.specs.Placed.{placed_size};
 ghost use Rattle.sheet_ops.specs.Naming.{effect_of_intent};
 ghost use Rattle.sheet_ops.specs.Effects.{puts_of, written, uncovered};
-ghost use Rattle.sheetshare.specs.Replicas.{decided, issued_by, effect_past, taken_by};
+ghost use Rattle.sheetshare.specs.Replicas.{IsShort, decided, issued_by, effect_past, taken_by};
 ghost use Rattle.sheet_ops.specs.declared.operation.Intent.{Intent};
 ghost use Rattle.sheetshare.specs.Runs.{seat_of};
 
@@ -85,6 +85,7 @@ fn effect_past(own: &[Entry], intent: &Intent) -> Result<Effect, Memory>
 impl Replica {
     /// Does an own edit at once. A refused edit leaves the replica. It costs the logarithm of the cells.
     pub fn issue(&mut self, alloc: Global, site: Site, edit: &Edit) -> Result<(), EditErr>
+        requires { IsShort edit.now }
         ensures ok { OnOk result ((op : Intent) × (decided self.old edit.now ≡ Ok op) × (self.new ≡ issued_by self.old site op)) }
         ensures err { OnErr result (self.new ≡ self.old) }
         ensures cause { IfErr result (λ e. e ≢ EditErr.Memory → decided self.old edit.now ≡ Err e) }

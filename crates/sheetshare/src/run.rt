@@ -2,6 +2,7 @@ ghost use Rattle.std.specs.Prelude.{◌≡◌, ◌≢◌, ◌≤◌, ◌<◌, �
 ghost use Rattle.sheetshare.specs.World.{World, Seat, no_world, new_seat, place_in, seat_at, decided, after_decided, at_most, pushed, pulled, each_pushed, each_pulled};
 ghost use Rattle.sheetshare.specs.Transcript.{show_text};
 ghost use Rattle.sheetshare.specs.Runs.{place_among};
+ghost use Rattle.sheetshare.specs.Replicas.{IsShort};
 ghost use Rattle.sheet_ops.specs.declared.operation.Intent.{Intent};
 ghost use Rattle.std.specs.Str.{bytes_eq};
 
@@ -112,7 +113,8 @@ impl Run {
 
     /// Does an edit of a site at once. A refused edit leaves the run.
     pub fn edit(&mut self, alloc: Global, place: usize, edit: &Edit) -> Result<(), EditErr>
-        requires { place < length self.old.seats }
+        requires place { place < length self.old.seats }
+        requires short { IsShort edit.now }
         ensures ok { OnOk result ((op : Intent) × (decided self.old place edit.now ≡ Ok op) × (self.new ≡ after_decided self.old place (Ok op))) }
         ensures err { OnErr result (self.new ≡ self.old) }
         ensures cause { IfErr result (λ e. e ≢ EditErr.Memory → decided self.old place edit.now ≡ Err e) }

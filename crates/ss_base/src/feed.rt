@@ -1,4 +1,4 @@
-ghost use Rattle.std.specs.Prelude.{◌≡◌, ◌≤◌, [], IfOk, IsErrOf, if◌then◌else◌, vec_capacity};
+ghost use Rattle.std.specs.Prelude.{◌≡◌, ◌≤◌, [], length, IfOk, IsErrOf, if◌then◌else◌, vec_capacity};
 ghost use Rattle.ss_base.specs.Streams.{Rose};
 ghost use Rattle.ss_base.specs.Lines.{FeedState, lines_left, GivesLine, MovesOn};
 
@@ -94,7 +94,8 @@ impl LineFeed {
     /// The last line that was read, without its line feed. After any other answer of `read_line` it is
     /// the front of the next line, as far as it was read.
     pub fn line(&self) -> &[u8]
-        ensures { result.now ≡ self.now.line }
+        ensures line { result.now ≡ self.now.line }
+        ensures short { length result.now ≤ 4096 }
     {
         self.line.as_slice()
     }

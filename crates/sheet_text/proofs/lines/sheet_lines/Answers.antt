@@ -1,7 +1,7 @@
 use Rattle.std.proofs.Common.{◌≡◌, ◌∙◌, ℕ, List, [], ◌∷◌, ◌++◌, length, ap, sym, arith, append_assoc}
 use Rattle.ss_base.specs.declared.types.Size.{Size}
 use Rattle.sheet_ops.specs.Lines.{visible_places}
-use Rattle.sheet_ops.specs.Shown.{shown_placed}
+use Rattle.sheet_text.specs.Shown.{shown_placed}
 use Rattle.sheet_text.specs.Texts.{cell_lines, sheet_text}
 use Rattle.sheet_text.proofs.Rest.{place_within, row_texts, rows_more, rows_all}
 use Rattle.sheet_text.proofs.lines.sheet_lines.Goals as goal

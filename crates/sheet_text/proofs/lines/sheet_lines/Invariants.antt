@@ -1,5 +1,5 @@
 use Rattle.std.proofs.Common.{◌≡◌, ◌++◌, drop}
-use Rattle.sheet_ops.specs.Shown.{shown_placed}
+use Rattle.sheet_text.specs.Shown.{shown_placed}
 use Rattle.sheet_text.specs.Texts.{lines_from, sheet_text}
 use Rattle.sheet_text.proofs.lines.sheet_lines.Given as goal
 

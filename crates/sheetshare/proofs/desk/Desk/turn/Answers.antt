@@ -1,4 +1,4 @@
-use Rattle.std.proofs.Common.{sym, ap, subst, Err}
+use Rattle.std.proofs.Common.{sym, ap, subst, arith, Err}
 use Rattle.script_read.specs.Script.{turn_of_line}
 use Rattle.sheetshare.specs.declared.desk.Outcome.{Outcome}
 use Rattle.sheetshare.specs.Desks.{TurnGives}
@@ -6,7 +6,7 @@ use Rattle.sheetshare.proofs.Declared.{within-line}
 use Rattle.sheetshare.proofs.desk.Desk.turn.Goals as goal
 
 pub command-requires : goal.command-requires
-command-requires c = within-line c.args.line.now c.in-Ok.command c.in-Ok.ensures.command
+command-requires c = within-line c.args.line.now c.in-Ok.command (omega (arith, c.requires)) c.in-Ok.ensures.command
 
 pub returns-in-Err-Grammar : goal.returns-in-Err-Grammar
 returns-in-Err-Grammar c =

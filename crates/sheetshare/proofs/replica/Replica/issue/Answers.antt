@@ -7,9 +7,10 @@ use Rattle.sheet_ops.specs.Fits.{EffectFits}
 use Rattle.sheet_ops.specs.History.{operations}
 use Rattle.sheet_ops.specs.Placed.{placed_size}
 use Rattle.sheet_ops.specs.Effects.{effect_on}
-use Rattle.sheet_ops.specs.Edits.{intended_by}
+use Rattle.author_ops.specs.Edits.{intended_by}
 use Rattle.sheetshare.specs.World.{unless_spent}
-use Rattle.sheetshare.proofs.Intended.{intended-fits, effect-fits, operations-length, spent, not_spent}
+use Rattle.author_ops.proofs.Intended.{intended-fits}
+use Rattle.sheetshare.proofs.Intended.{effect-fits, operations-length, spent, not_spent}
 use Rattle.sheetshare.proofs.replica.Replica.issue.Goals as goal
 
 pub returns-then-len-ge-MOST-clause-cause : goal.returns-then-len-ge-MOST-clause-cause

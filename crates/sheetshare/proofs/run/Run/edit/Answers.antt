@@ -12,7 +12,7 @@ use Rattle.sheetshare.proofs.run.Run.edit.Goals.{After-index_mut-replica}
 
 module _ (c : After-index_mut-replica) where
   place_here : c.args.place < length (map seat_of c.self.inside.replicas.items)
-  place_here = subst (λ (w : World). c.args.place < length w.seats) (sym c.self.view_is) c.requires
+  place_here = subst (λ (w : World). c.args.place < length w.seats) (sym c.self.view_is) c.requires.place
 
   site_here : c.site_at-site.result ≡ record { 0 = suc c.args.place }
   site_here = λ i. record { 0 = (let e : c.site_at-site.result.0 ≡ suc c.args.place = omega (arith, c.site_at-site.ensures) in e) i }

@@ -2,7 +2,7 @@ use Rattle.std.proofs.Common.{◌≡◌, ◌<◌, ◌-◌, ℕ, arith, sym, ◌�
 use Rattle.std.specs.Prelude.{map, List}
 use Rattle.sheetshare.specs.Runs.{seat_of}
 use Rattle.sheetshare.specs.World.{World}
-use Rattle.sheet_ops.specs.Shown.{shown_placed}
+use Rattle.sheet_text.specs.Shown.{shown_placed}
 use Rattle.sheet_text.specs.Texts.{sheet_text}
 use Rattle.sheetshare.specs.Transcript.{show_text}
 use Rattle.sheetshare.proofs.Outcomes.{if_ok}

@@ -5,10 +5,10 @@ use Rattle.sheet_ops.specs.declared.content.Content.{Content}
 use Rattle.sheet_ops.specs.declared.content.Content.TheVariants as content
 use Rattle.sheet_ops.specs.LineIds.{LineId}
 use Rattle.sheet_ops.specs.Lines.{Line, Axis, no_line, marks, live_lines, visible_from, visible_places}
-use Rattle.sheet_ops.specs.Identity.{IdContent, blank, number, IdSheet}
+use Rattle.sheet_ops.specs.Identity.{IdSheet}
 use Rattle.sheet_ops.specs.Naming.{locate_content}
 use Rattle.sheet_ops.specs.Placed.{PlacedSheet, placed, cell_at}
-use Rattle.sheet_ops.specs.Shown.{shown_content, shown, shown_text, shown_placed}
+use Rattle.sheet_text.specs.Shown.{shown, shown_text, shown_placed}
 use Rattle.sheet_ops.proofs.Written.{index_map}
 
 -- what a function gives over the lines that pass, and what it gives over their positions
@@ -45,10 +45,6 @@ live_count axis =
     let each : ℕ → Bool = λ _. true in
     sym (length_map one (live_lines axis)) ∙ (ap length (live_lines-places axis.dead one each axis refl (λ p k. refl)) ∙ length_map each (visible_places (marks axis)))
 
-text_again : (X : IdSheet) (P : PlacedSheet) (c : IdContent) → shown_text P (locate_content X c) ≡ shown_content X c
-text_again X P blank = refl
-text_again X P (number z) = refl
-
 pub cell_at-placed : (X : IdSheet) (p q : ℕ) → p < length X.rows.lines → q < length X.cols.lines →
     cell_at (placed X) p q ≡ locate_content X (X.cells (slice_index_or X.rows.lines p no_line).rec (slice_index_or X.cols.lines q no_line).rec)
 cell_at-placed X p q h k =
@@ -60,11 +56,11 @@ pub shown-placed : (X : IdSheet) → shown X ≡ shown_placed (placed X)
 shown-placed X = λ i. record { rows = live_count X.rows i; cols = live_count X.cols i; cells = cells_seen i }
   where
     row_seen : (p : ℕ) → p < length X.rows.lines →
-        map (λ q. shown_text (placed X) (cell_at (placed X) p q)) (visible_places (marks X.cols)) ≡ map (λ c. shown_content X (X.cells (slice_index_or X.rows.lines p no_line).rec c.rec)) (live_lines X.cols)
+        map (λ q. shown_text (placed X) (cell_at (placed X) p q)) (visible_places (marks X.cols)) ≡ map (λ c. shown_text (placed X) (locate_content X (X.cells (slice_index_or X.rows.lines p no_line).rec c.rec))) (live_lines X.cols)
     row_seen p h =
-        sym (live_lines-places X.cols.dead (λ c. shown_content X (X.cells (slice_index_or X.rows.lines p no_line).rec c.rec)) (λ q. shown_text (placed X) (cell_at (placed X) p q)) X.cols refl
-        (λ q k. ap (shown_text (placed X)) (cell_at-placed X p q h k) ∙ text_again X (placed X) (X.cells (slice_index_or X.rows.lines p no_line).rec (slice_index_or X.cols.lines q no_line).rec)))
+        sym (live_lines-places X.cols.dead (λ c. shown_text (placed X) (locate_content X (X.cells (slice_index_or X.rows.lines p no_line).rec c.rec))) (λ q. shown_text (placed X) (cell_at (placed X) p q)) X.cols refl
+        (λ q k. ap (shown_text (placed X)) (cell_at-placed X p q h k)))
 
-    cells_seen : map (λ r. map (λ c. shown_content X (X.cells r.rec c.rec)) (live_lines X.cols)) (live_lines X.rows)
+    cells_seen : map (λ r. map (λ c. shown_text (placed X) (locate_content X (X.cells r.rec c.rec))) (live_lines X.cols)) (live_lines X.rows)
         ≡ map (λ p. map (λ q. shown_text (placed X) (cell_at (placed X) p q)) (visible_places (marks X.cols))) (visible_places (marks X.rows))
-    cells_seen = live_lines-places X.rows.dead (λ r. map (λ c. shown_content X (X.cells r.rec c.rec)) (live_lines X.cols)) (λ p. map (λ q. shown_text (placed X) (cell_at (placed X) p q)) (visible_places (marks X.cols))) X.rows refl row_seen
+    cells_seen = live_lines-places X.rows.dead (λ r. map (λ c. shown_text (placed X) (locate_content X (X.cells r.rec c.rec))) (live_lines X.cols)) (λ p. map (λ q. shown_text (placed X) (cell_at (placed X) p q)) (visible_places (marks X.cols))) X.rows refl row_seen
