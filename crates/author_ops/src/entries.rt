@@ -42,6 +42,7 @@ fn number_of(text: &[u8]) -> Result<Content, EditErr>
 }
 
 /// Where a reference is typed, the lines that are seen there are meant.
+#[derive(Drop)]
 struct Typed<'a> {
     sheet: &'a Sheet,
 }

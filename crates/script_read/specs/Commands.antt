@@ -1,5 +1,5 @@
 -- the command that a line of a script is
-use Rattle.std.specs.Prelude.{ℕ, nat_eq, nat_le, ◌||◌, ◌&&◌, Bool, true, if◌then◌else◌, List, [], ◌∷◌, codes, Option, Some, None, option_map, is_some}
+use Rattle.std.specs.Prelude.{ℕ, nat_eq, nat_le, ◌||◌, ◌&&◌, Bool, true, if◌then◌else◌, List, [], ◌∷◌, codes, Option, Some, None, option_map}
 use Rattle.std.specs.List.{list_all, join_with_byte}
 use Rattle.std.specs.Str.{bytes_eq}
 use Rattle.ss_base.specs.declared.types.Spot.{Spot}

@@ -1,6 +1,6 @@
 -- Lines of which none is marked.
 use Rattle.std.proofs.Common.{◌≡◌, ℕ, zero, suc, ◌+◌, ◌<◌, ◌≤◌, Bool, true, false, List, length, refl, ap, sym, ◌∙◌, arith, inl, inr, ◌⊎◌}
-use Rattle.std.specs.Prelude.{replicate, take, cond, nat_lt, ◌-◌, ◌×◌, ◌∷◌, slice_get, slice_index_or, Option, Some, None}
+use Rattle.std.specs.Prelude.{replicate, take, cond, nat_lt, ◌-◌, ◌∷◌, slice_get, slice_index_or, Option, Some, None}
 use Rattle.std.proofs.lemmas.Bool.Decides.{nat_tests}
 use Rattle.marked_lines.specs.Marks.{visible_count, visible_before, span_of}
 use Rattle.sheet_grid.specs.Cells.{visible_index}
@@ -81,7 +81,7 @@ pub up_to_past : (count last : ℕ) → count ≤ last → count ≡ visible_bef
 up_to_past count last h = sym (before-past count (suc last) (omega arith))
 
 -- the visible ends of a span, by how many lines stand before the first and up to the last
-span_by : (before behind : ℕ) (t : Bool) → nat_lt before behind ≡ t → before < behind → Some (before, behind - 1) ≡ cond t (Some (before, behind - 1)) None
+span_by : (before behind : ℕ) (t : Bool) → nat_lt before behind ≡ t → before < behind → ◌≡◌ {A = Option (ℕ × ℕ)} (Some (before, behind - 1)) (cond t (Some (before, behind - 1)) None)
 span_by before behind true e h = refl
 span_by before behind false e h = absurd (grind (arith, nat_tests))
 

@@ -1,16 +1,20 @@
 -- Walking along a row.
 use Rattle.std.proofs.Common.{◌≡◌, ℕ, zero, suc, ◌+◌, ◌-◌, ◌<◌, ◌≤◌, Bool, true, false, cond, List, [], ◌∷◌, ◌++◌, length, take, drop, refl, ap, sym, ◌∙◌, arith, append_assoc}
-use lib.Signed.{mag}
-use Rattle.std.specs.Prelude.{◌^◌, ℤ, pos, negsuc, slice_get, map, slice_index_or, decimal, Option, Some, None}
-use Rattle.std.specs.Fmt.{signed_decimal}
-use Rattle.std.proofs.lemmas.Fmt.{decimal_nonempty}
+use Rattle.std.proofs.lemmas.Bool.Decides.{nat_tests}
+use Rattle.std.specs.Prelude.{nat_eq, nat_lt, slice_get, map, slice_index_or, decimal, Option, Some, None}
+use Rattle.ss_base.specs.declared.types.Spot.{Spot}
+use Rattle.ss_base.specs.declared.types.Span.{Span}
+use Rattle.marked_lines.specs.Marks.{visible_count, visible_before, span_of}
+use Rattle.formula_tree.specs.Tree.{Tree}
+use Rattle.formula_tree.specs.Remap.{IsMapped, IsSpotMapped, IsSpanMapped}
+use Rattle.sheet_ops.proofs.References.{always}
 use Rattle.cell_addr.specs.Columns.{letters}
 use Rattle.cell_addr.specs.Cells.{address}
 use Rattle.sheet_ops.specs.declared.content.Content.{Content}
 use Rattle.sheet_ops.specs.declared.content.Content.TheVariants as content
 use Rattle.sheet_ops.specs.Lines.{visible_from, visible_places}
 use Rattle.sheet_ops.specs.Placed.{PlacedSheet, cell_at}
-use Rattle.sheet_text.specs.Shown.{shown_text}
+use Rattle.sheet_text.specs.Shown.{seen, shown_text}
 use Rattle.sheet_grid.specs.Cells.{visible_index}
 use Rattle.sheet_text.specs.Texts.{cell_line, row_lines, lines_from}
 use Rattle.sheet_text.specs.Rows.{line_if_seen, rest_of_row}
@@ -98,22 +102,73 @@ module _ (P : PlacedSheet) (visible row : ℕ) where
       ∙ sym (skip_to from (length P.cols) h (omega arith) empty))
       ∙ told)
 
--- ---- the line of a number
-signed_some : (z : ℤ) → mag z < 2 ^ 63 → 0 < length (signed_decimal z)
-signed_some (pos n) small = decimal_nonempty n (let h : n < 2 ^ 63 = small in omega arith)
-signed_some (negsuc n) small = omega arith
+-- ---- the line of a cell
+regrouped : (o a b t : List ℕ) → (((o ++ a) ++ (b ++ 32 ∷ [])) ++ t) ++ 10 ∷ [] ≡ o ++ ((a ++ b) ++ 32 ∷ t ++ 10 ∷ [])
+regrouped o a b t = simp append_assoc
 
-regrouped : (a b t : List ℕ) → a ++ (b ++ (32 ∷ (t ++ 10 ∷ []))) ≡ (a ++ b) ++ 32 ∷ t ++ 10 ∷ []
-regrouped a b t = simp append_assoc
+pub some_text : (text : List ℕ) → nat_eq (length text) 0 ≡ false → 0 < length text
+some_text text h = grind (arith, nat_tests)
 
-pub number_line : (row col : ℕ) (z : ℤ) (out one two name rest : List ℕ) → mag z < 2 ^ 63 → name ≡ letters col → one ≡ out ++ name → two ≡ one ++ rest → rest ≡ decimal (row + 1) ++ (32 ∷ (signed_decimal z ++ 10 ∷ [])) →
-    two ≡ out ++ cell_line row col (signed_decimal z)
-number_line row col z out one two name rest small n o t r =
-    t
-    ∙ ((λ i. o i ++ r i)
-    ∙ ((λ i. (out ++ n i) ++ (decimal (row + 1) ++ (32 ∷ (signed_decimal z ++ 10 ∷ []))))
-    ∙ (append_assoc out (letters col) (decimal (row + 1) ++ (32 ∷ (signed_decimal z ++ 10 ∷ [])))
-    ∙ ap (λ (zs : List ℕ). out ++ zs) (regrouped (letters col) (decimal (row + 1)) (signed_decimal z) ∙ sym (cell_line-filled row col (signed_decimal z) (signed_some z small))))))
+pub filled_line : (row col : ℕ) (text out one two three four name rest : List ℕ) → 0 < length text → name ≡ letters col → one ≡ out ++ name → rest ≡ decimal (row + 1) ++ 32 ∷ [] → two ≡ one ++ rest →
+    three ≡ two ++ text → four ≡ three ++ 10 ∷ [] → four ≡ out ++ cell_line row col text
+filled_line row col text out one two three four name rest some n o r t s f =
+    f
+    ∙ ((λ i. s i ++ 10 ∷ [])
+    ∙ ((λ i. (t i ++ text) ++ 10 ∷ [])
+    ∙ ((λ i. ((o i ++ r i) ++ text) ++ 10 ∷ [])
+    ∙ ((λ i. (((out ++ n i) ++ (decimal (row + 1) ++ 32 ∷ [])) ++ text) ++ 10 ∷ [])
+    ∙ (regrouped out (letters col) (decimal (row + 1)) text ∙ ap (λ (zs : List ℕ). out ++ zs) (sym (cell_line-filled row col text some)))))))
+
+-- ---- what is seen of a sheet that is not too large
+visible_few : (first : ℕ) (ms : List Bool) → length (visible_from first ms) ≤ length ms
+visible_few first [] = omega arith
+visible_few first (true ∷ ms) = let h = visible_few (suc first) ms in omega arith
+visible_few first (false ∷ ms) = let h = visible_few (suc first) ms in omega arith
+
+take_few : (n : ℕ) (ms : List Bool) → length (take n ms) ≤ length ms
+take_few zero ms = omega arith
+take_few (suc n) [] = omega arith
+take_few (suc n) (m ∷ ms) = let h = take_few n ms in omega arith
+
+index_few : (ms : List Bool) (p r : ℕ) → visible_index ms p ≡ Some r → r ≤ length ms
+index_few ms p r e = by_mark (slice_index_or ms p true) e
+  where
+    by_mark : (m : Bool) → cond m None (Some (length (visible_places (take p ms)))) ≡ Some r → r ≤ length ms
+    by_mark true e = absurd (cc)
+    by_mark false e =
+        let same : length (visible_places (take p ms)) ≡ r = cc in
+        let h = visible_few 0 (take p ms) in
+        let k = take_few p ms in
+        omega (arith, same)
+
+count_few : (ms : List Bool) → visible_count ms ≤ length ms
+count_few [] = omega arith
+count_few (true ∷ ms) = let h = count_few ms in omega arith
+count_few (false ∷ ms) = let h = count_few ms in omega arith
+
+before_few : (ms : List Bool) (p : ℕ) → visible_before ms p ≤ length ms
+before_few ms p = let h = count_few (take p ms) in let k = take_few p ms in omega arith
+
+span_few : (ms : List Bool) (first last : ℕ) (s : ℕ × ℕ) → span_of ms first last ≡ Some s → (s.0 ≤ length ms) × (s.1 ≤ length ms)
+span_few ms first last (x, y) e = by_test (nat_lt (visible_before ms first) (visible_before ms (suc last))) e
+  where
+    by_test : (b : Bool) → ◌≡◌ {A = Option (ℕ × ℕ)} (cond b (Some (visible_before ms first, visible_before ms (suc last) - 1)) None) (Some (x, y)) → (x ≤ length ms) × (y ≤ length ms)
+    by_test false e = absurd (cc)
+    by_test true e =
+        let same : ◌≡◌ {A = ℕ × ℕ} (visible_before ms first, visible_before ms (suc last) - 1) (x, y) = cc in
+        let one : visible_before ms first ≡ x = ap (λ (s : ℕ × ℕ). s.0) same in
+        let two : visible_before ms (suc last) - 1 ≡ y = ap (λ (s : ℕ × ℕ). s.1) same in
+        (let h = before_few ms first in omega (arith, one), let h = before_few ms (suc last) in omega (arith, two))
+
+-- so every formula can be shown
+pub seen_mapped : (P : PlacedSheet) → length P.rows ≤ 16000 → length P.cols ≤ 16000 → (t : Tree Spot Span) → IsMapped (seen P.rows P.cols) t
+seen_mapped P r c t =
+    always (IsSpotMapped (seen P.rows P.cols)) (IsSpanMapped (seen P.rows P.cols))
+    (λ s row col e f. (let h = index_few P.rows s.row row e in omega arith, let h = index_few P.cols s.col col f in omega arith))
+    (λ s rows cols e f.
+    let h = span_few P.rows s.top s.bottom rows e in
+    let k = span_few P.cols s.left s.right cols f in
+    ((omega arith, omega arith), (omega arith, omega arith))) t
 
 -- ---- row by row
 pub place_within : (first : ℕ) (ms : List Bool) (k place : ℕ) → slice_get (visible_from first ms) k ≡ Some place → place < first + length ms

@@ -7,7 +7,7 @@ use Rattle.sheet_ops.specs.LineIds.{LineId}
 use Rattle.sheet_ops.specs.Lines.{Line, Axis, no_line, marks, live_lines, visible_from, visible_places}
 use Rattle.sheet_ops.specs.Identity.{IdSheet}
 use Rattle.sheet_ops.specs.Naming.{locate_content}
-use Rattle.sheet_ops.specs.Placed.{PlacedSheet, placed, cell_at}
+use Rattle.sheet_ops.specs.Placed.{placed, cell_at}
 use Rattle.sheet_text.specs.Shown.{shown, shown_text, shown_placed}
 use Rattle.sheet_ops.proofs.Written.{index_map}
 

@@ -1,9 +1,9 @@
 -- What a person sees of a sheet.
-use Rattle.std.specs.Prelude.{ℕ, nat_eq, not, ◌&&◌, ◌||◌, Bool, false, if◌then◌else◌, List, [], ◌∷◌, length, map}
+use Rattle.std.specs.Prelude.{ℕ, nat_eq, not, ◌||◌, Bool, false, if◌then◌else◌, List, [], ◌∷◌, length, map}
 use Rattle.std.specs.Fmt.{signed_decimal}
 use Rattle.marked_lines.specs.Marks.{span_of}
 use Rattle.formula_tree.specs.Remap.{Images, mapped}
-use Rattle.formula_print.specs.Texts.{formula_text}
+use Rattle.formula_tree.specs.Printed.{formula_text}
 use Rattle.sheet_ops.specs.declared.content.Content.{Content}
 use Rattle.sheet_ops.specs.declared.content.Content.TheVariants as content
 use Rattle.sheet_ops.specs.Lines.{live_lines, visible_places}

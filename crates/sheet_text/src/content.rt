@@ -1,5 +1,5 @@
 ghost use Rattle.std.specs.Prelude.{◌≡◌, ◌∷◌, if◌then◌else◌, IfOk};
-ghost use Rattle.formula_print.specs.Texts.{formula_text};
+ghost use Rattle.formula_tree.specs.Printed.{formula_text};
 ghost use Rattle.formula_tree.specs.Remap.{mapped};
 ghost use Rattle.sheet_text.specs.Shown.{is_plain, seen, shown_text};
 
@@ -48,6 +48,7 @@ fn is_plain(text: &[u8]) -> bool
 }
 
 /// Where the lines of a sheet are seen.
+#[derive(Drop)]
 struct Seen<'a> {
     sheet: &'a Sheet,
 }
@@ -76,6 +77,8 @@ impl Remap for Seen<'_> {
 fn formula_seen(alloc: Global, sheet: &Sheet, formula: Formula) -> Result<Txt, Memory>
     ensures { IfOk result (λ t. t ≡ formula_text (mapped (seen sheet.now.rows sheet.now.cols) formula)) }
 {
+    // No visible index is above the size.
+    let _size = sheet.size();
     let mut formula = formula;
     rename(&mut formula, &Seen { sheet });
     print(alloc, &formula)

@@ -37,13 +37,16 @@ pub fn refusal(alloc: Global, line: u32, cause: EditErr) -> Result<Txt, Memory>
     requires { cause ≢ fault.Memory }
     ensures { IfOk result (λ t. t ≡ refusal_text line cause) }
 {
-    let cause = words(alloc, cause)?;
-    let text = format!(in alloc; "refused {line} {cause}\n")?;
-    Ok(Txt::from_vec(text.into_bytes()))
+    let words = words(alloc, cause)?;
+    let front = format!(in alloc; "refused {line} ")?;
+    let mut text = front.into_bytes();
+    text.extend_from_slice(words.bytes())?;
+    text.push(b'\n')?;
+    Ok(Txt::from_vec(text))
 }
 
 /// Why an edit was refused.
-fn words(alloc: Global, cause: EditErr) -> Result<String, Memory>
+fn words(alloc: Global, cause: EditErr) -> Result<Txt, Memory>
     requires { cause ≢ fault.Memory }
     ensures { IfOk result (λ t. t ≡ cause_text cause) }
 {
@@ -55,5 +58,5 @@ fn words(alloc: Global, cause: EditErr) -> Result<String, Memory>
         EditErr::Spent => format!(in alloc; "spent")?,
         EditErr::Memory => unreachable!(),
     };
-    Ok(words)
+    Ok(Txt::from_vec(words.into_bytes()))
 }

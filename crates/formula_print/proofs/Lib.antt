@@ -1,6 +1,0 @@
-pub mod Pieces
-pub mod Derived
-pub mod Parting
-pub mod Spelled
-pub mod Cut
-pub mod Calls
