@@ -13,3 +13,4 @@ pub mod Syntax
 pub mod Functions
 pub mod Bytes
 pub mod Fronts
+pub mod Stops

@@ -3,3 +3,4 @@ pub mod Longest
 pub mod Read
 pub mod Places
 pub mod Reading
+pub mod Standing

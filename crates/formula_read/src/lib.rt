@@ -2,10 +2,13 @@
 //! front of one.
 #![tactic(auto)]
 
+mod brackets;
+mod front;
 mod kinds;
 mod laws;
 mod lexer;
 mod partial;
+mod place;
 #[cfg(test)]
 mod tests;
 
