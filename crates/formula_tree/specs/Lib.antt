@@ -10,3 +10,4 @@ pub mod Remap
 pub mod Lists
 pub mod Lexing
 pub mod Grammar
+pub mod Printed
