@@ -59,8 +59,9 @@ fn between(a: Option<Spot>, b: Option<Spot>) -> Option<Span>
     Some(span_between(a?, b?))
 }
 
-/// The range of two corners, put in order.
-fn span_between(a: Spot, b: Spot) -> Span
+/// The range of two corners. Rows and columns are put in order each by themselves, and each keeps its
+/// `$`; of two equal ones the first corner's is the top or the left.
+pub fn span_between(a: Spot, b: Spot) -> Span
     ensures { result ≡ range_between a b }
 {
     let (top, bottom) = if a.row <= b.row { (a, b) } else { (b, a) };

@@ -1,3 +1,4 @@
 pub mod Trees
 pub mod Measured
 pub mod Mapped
+pub mod FunctionNames

@@ -48,3 +48,19 @@ name_of (Unknown name) = name
 abbrev pub is_known : Fun → Bool
 is_known (Unknown name) = false
 is_known fun = true
+
+-- one of those that give a number of numbers: totals, counts and arithmetic
+abbrev pub is_numeric : Fun → Bool
+is_numeric Sum = true
+is_numeric Count = true
+is_numeric Counta = true
+is_numeric Min = true
+is_numeric Max = true
+is_numeric Abs = true
+is_numeric Sign = true
+is_numeric Mod = true
+is_numeric Quotient = true
+is_numeric Countif = true
+is_numeric Sumif = true
+is_numeric Sumproduct = true
+is_numeric fun = false

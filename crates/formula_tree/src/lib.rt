@@ -3,6 +3,7 @@
 #![tactic(auto)]
 
 mod copying;
+mod errors;
 mod expression;
 mod formulas;
 mod functions;
@@ -12,9 +13,10 @@ mod renaming;
 #[cfg(test)]
 mod tests;
 
+pub use errors::error_name;
 pub use expression::Expr;
 pub use formulas::{Formula, rename};
 pub use functions::Fun;
-pub use measures::{nesting, weight};
+pub use measures::{nesting, precedence, weight};
 pub use operators::{BinOp, PreOp};
 pub use renaming::Remap;

@@ -1,9 +1,9 @@
 ghost use Rattle.std.specs.Prelude.{◌≡◌, map as map_list};
-ghost use Rattle.cell_addr.specs.Cells.{range_between};
 ghost use Rattle.formula_tree.specs.Erase.{tree_of};
 ghost use Rattle.formula_tree.specs.Remap.{Images, mapped, remap_spot, remap_span, cell_or_lost, range_or_lost};
 
 use crate::expression::Expr;
+use cell_addr::span_between;
 use ss_base::{CalcErr, Seq, Span, Spot};
 
 /// What becomes of the rows and columns that a formula refers to. `None` is one that is gone.
@@ -69,24 +69,6 @@ fn remapped_range<M: Remap>(span: Span, map: &M) -> Expr
         abs_col: span.abs_right,
     };
     Expr::Range(span_between(first, last))
-}
-
-/// The range of two corners, its rows and columns put in order each by themselves.
-fn span_between(a: Spot, b: Spot) -> Span
-    ensures { result ≡ range_between a b }
-{
-    let (top, bottom) = if a.row <= b.row { (a, b) } else { (b, a) };
-    let (left, right) = if a.col <= b.col { (a, b) } else { (b, a) };
-    Span {
-        top: top.row,
-        left: left.col,
-        bottom: bottom.row,
-        right: right.col,
-        abs_top: top.abs_row,
-        abs_left: left.abs_col,
-        abs_bottom: bottom.abs_row,
-        abs_right: right.abs_col,
-    }
 }
 
 /// Replaces each reference by its image, in place.

@@ -22,3 +22,14 @@ fn copies_unknown_names_with_ample_memory(rt: HostRuntime) -> Result<(), Fail> {
     assert_eq!(rt; nesting(&call), 1);
     Ok(())
 }
+
+#[test]
+fn names_functions_in_either_case(rt: HostRuntime) -> Result<(), Fail> {
+    let alloc = rt.alloc();
+    assert!(rt; matches!(Fun::named(alloc, b"sumIF")?, Fun::Sumif));
+    assert!(rt; matches!(Fun::named(alloc, b"IF")?, Fun::If));
+    let unknown = Fun::named(alloc, b"Log10")?;
+    assert!(rt; matches!(unknown, Fun::Unknown(_)));
+    assert_eq!(rt; unknown.name(), b"LOG10".as_slice());
+    Ok(())
+}
