@@ -1,6 +1,6 @@
 -- What an edit denotes fits the sheet on which it was made.
-use Rattle.std.proofs.Common.{◌≡◌, ℕ, zero, suc, ◌+◌, ◌<◌, ◌≤◌, Bool, true, false, cond, List, [], ◌∷◌, length, refl, subst, arith, Some, None, Option, Ok, Err}
-use Rattle.std.specs.Prelude.{nat_eq, nat_lt, nat_le, slice_get, Result}
+use Rattle.std.proofs.Common.{◌≡◌, ℕ, zero, suc, ◌+◌, ◌<◌, Bool, true, false, cond, List, [], ◌∷◌, ◌-◌, ◌^◌, length, refl, ap, subst, arith, Some, None, Option, Ok, Err}
+use Rattle.std.specs.Prelude.{ℤ, min, nat_eq, nat_lt, nat_le, slice_get, Result}
 use Rattle.std.specs.Option.{option_and_then, option_map}
 use Rattle.ss_base.specs.declared.types.Size.{Size}
 use Rattle.ss_base.specs.declared.types.Spot.{Spot}
@@ -16,7 +16,6 @@ use Rattle.sheet_ops.specs.declared.edit.Edit.TheVariants as edit
 use Rattle.sheet_ops.specs.declared.edit.EditErr.{EditErr}
 use Rattle.sheet_ops.specs.declared.edit.EditErr.TheVariants as fault
 use Rattle.sheet_ops.specs.declared.operation.Intent.{Intent}
-use Rattle.sheet_ops.specs.declared.operation.Intent.TheVariants as intent
 use Rattle.sheet_ops.specs.Fits.{IntentFits, ContentFits, CellFits, RangeFits, IsInside}
 use Rattle.sheet_ops.specs.Lines.{visible_from, visible_places}
 use Rattle.sheet_ops.specs.Placed.{PlacedSheet, placed_size}
@@ -38,16 +37,17 @@ pub seen_below : (ms : List Bool) (i p : ℕ) → slice_get (visible_places ms) 
 seen_below ms i p e = let h = visible_below 0 ms i p e in omega arith
 
 -- both of two positions
-pub both_below : (first last n : ℕ) (a b : Option ℕ) (x y : ℕ) → option_and_then (λ p. option_map (λ q. (p, q)) b) a ≡ Some (x, y) →
+pub both_below : (first last n : ℕ) (a b : Option ℕ) (x y : ℕ) → ◌≡◌ {A = Option (ℕ × ℕ)} (option_and_then (λ p. option_map (λ q. (p, q)) b) a) (Some (x, y)) →
     ((p : ℕ) → a ≡ Some p → p < first) → ((q : ℕ) → b ≡ Some q → q < last) → (x < first) × (y < last)
 both_below first last n None b x y e f g = absurd (cc)
 both_below first last n (Some p) None x y e f g = absurd (cc)
 both_below first last n (Some p) (Some q) x y e f g =
-    let one : p ≡ x = cc in
-    let two : q ≡ y = cc in
+    let same : ◌≡◌ {A = ℕ × ℕ} (p, q) (x, y) = cc in
+    let one : p ≡ x = ap (λ (s : ℕ × ℕ). s.0) same in
+    let two : q ≡ y = ap (λ (s : ℕ × ℕ). s.1) same in
     (let h = f p refl in omega (arith, h, one), let h = g q refl in omega (arith, h, two))
 
-pair_below : (ms : List Bool) (first last : ℕ) (pq : ℕ × ℕ) → pair_seen ms first last ≡ Some pq → (pq.0 < length ms) × (pq.1 < length ms)
+pub pair_below : (ms : List Bool) (first last : ℕ) (pq : ℕ × ℕ) → pair_seen ms first last ≡ Some pq → (pq.0 < length ms) × (pq.1 < length ms)
 pair_below ms first last (x, y) e =
     both_below (length ms) (length ms) (length ms) (slice_get (visible_places ms) first) (slice_get (visible_places ms) last) x y e (seen_below ms first) (seen_below ms last)
 
@@ -100,7 +100,7 @@ module _ (P : PlacedSheet) where
   number_inside : (entry : List ℕ) (c : Content) → number_entered entry ≡ Ok c → ContentFits size c
   number_inside entry c e = by_number (number_of entry) e
     where
-      by_number : (z : Option _) → ◌≡◌ {A = Result Content EditErr} (elim z as (λ _. Result Content EditErr) [ Some n ↦ Ok (content.Num n) | None ↦ Err (fault.BadFormula (number_front entry)) ]) (Ok c) → ContentFits size c
+      by_number : (z : Option ℤ) → ◌≡◌ {A = Result Content EditErr} (elim z as (λ _. Result Content EditErr) [ Some n ↦ Ok (content.Num n) | None ↦ Err (fault.BadFormula (number_front entry)) ]) (Ok c) → ContentFits size c
       by_number None e = absurd (cc)
       by_number (Some n) e = let same : content.Num n ≡ c = cc in subst (λ (x : Content). ContentFits size x) same tt
 
@@ -122,7 +122,7 @@ module _ (P : PlacedSheet) where
   light_fits : (op op' : Intent) → unless_heavy op ≡ Ok op' → IntentFits size op → IntentFits size op'
   light_fits op op' e fits = by_weight (nat_lt 512 (weight_of_intent op)) e
     where
-      by_weight : (b : Bool) → ◌≡◌ {A = Result Intent EditErr} (cond b (Err (fault.Heavy _)) (Ok op)) (Ok op') → IntentFits size op'
+      by_weight : (b : Bool) → ◌≡◌ {A = Result Intent EditErr} (cond b (Err (fault.Heavy (min (weight_of_intent op) (2 ^ 32 - 1)))) (Ok op)) (Ok op') → IntentFits size op'
       by_weight true e = absurd (cc)
       by_weight false e = let same : op ≡ op' = cc in subst (λ (x : Intent). IntentFits size x) same fits
 

@@ -1,5 +1,5 @@
 -- What an edit denotes on the sheet that its author sees.
-use Rattle.std.specs.Prelude.{ℕ, ◌-◌, ◌^◌, min, nat_lt, Bool, if◌then◌else◌, List, [], ◌∷◌, slice_get, ◌×◌, Option, Some, None, Result, Ok, Err}
+use Rattle.std.specs.Prelude.{ℕ, ◌-◌, ◌^◌, min, nat_lt, Bool, if◌then◌else◌, List, [], ◌∷◌, slice_get, Option, Some, None, Result, Ok, Err}
 use Rattle.std.specs.Option.{option_and_then, option_map}
 use Rattle.ss_base.specs.declared.types.Spot.{Spot}
 use Rattle.sheet_ops.specs.declared.content.Content.{Content}

@@ -1,5 +1,5 @@
 -- What an entry puts into its cell.
-use Rattle.std.specs.Prelude.{ℕ, nat_eq, nat_le, Bool, if◌then◌else◌, List, [], ◌∷◌, slice_get, ◌×◌, Option, Some, None, Result, Ok, Err}
+use Rattle.std.specs.Prelude.{ℕ, nat_eq, nat_le, Bool, if◌then◌else◌, List, [], ◌∷◌, slice_get, Option, Some, None, Result, Ok, Err}
 use Rattle.std.specs.Option.{option_and_then, option_map}
 use Rattle.formula_tree.specs.Remap.{Images, mapped}
 use Rattle.formula_read.specs.Readings.{Reading, formula, stops}

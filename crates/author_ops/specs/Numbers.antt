@@ -1,5 +1,5 @@
 -- The numbers that entries say.
-use Rattle.std.specs.Prelude.{ℕ, zero, suc, ℤ, pos, neg_ℤ, ◌^◌, nat_eq, nat_lt, nat_le, ◌&&◌, ◌||◌, Bool, true, if◌then◌else◌, List, [], ◌∷◌, length, take, is_some, Option, Some, None}
+use Rattle.std.specs.Prelude.{ℕ, zero, suc, ℤ, pos, neg_ℤ, ◌^◌, nat_eq, nat_lt, nat_le, ◌&&◌, ◌||◌, Bool, true, false, if◌then◌else◌, List, [], ◌∷◌, length, take, is_some, Option, Some, None}
 use Rattle.std.specs.Str.Parse.{digits_value}
 use Rattle.sheet_ops.specs.Numerals.{are_digits}
 

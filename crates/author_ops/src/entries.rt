@@ -1,5 +1,6 @@
-ghost use Rattle.std.specs.Prelude.{◌≡◌, ◌≢◌, ◌<◌, ◌^◌, length, Ok, Err, IfOk, IfErr};
-ghost use Rattle.author_ops.specs.Entries.{entered, formula_entered, number_entered};
+ghost use Rattle.std.specs.Prelude.{◌≡◌, ◌≢◌, ◌<◌, ◌^◌, true, length, Ok, Err, IfOk, IfErr};
+ghost use Rattle.sheet_ops.specs.Numerals.{is_numeral};
+ghost use Rattle.author_ops.specs.Entries.{entered, formula_entered, number_entered, typed};
 ghost use Rattle.formula_read.proofs.Readings.{reading};
 
 use crate::numbers::read_number;
@@ -32,7 +33,8 @@ fn text_of(alloc: Global, text: &[u8]) -> Result<Content, Memory>
 
 /// The number of an optional `-` and digits.
 fn number_of(text: &[u8]) -> Result<Content, EditErr>
-    requires { is_numeral text.now ≡ true }
+    requires numeral { is_numeral text.now ≡ true }
+    requires short { length text.now < 2 ^ 24 }
     ensures { result ≡ number_entered text.now }
 {
     match read_number(text) {
@@ -47,12 +49,38 @@ struct Typed<'a> {
     sheet: &'a Sheet,
 }
 
+impl Remap for Typed<'_> {
+    ghost images = { λ t. typed t.sheet.now.rows t.sheet.now.cols };
+
+    fn rec_row(&self, row: u32) -> Option<u32> {
+        self.sheet.row_at(row)
+    }
+
+    fn rec_col(&self, col: u32) -> Option<u32> {
+        self.sheet.col_at(col)
+    }
+
+    fn span_rows(&self, top: u32, bottom: u32) -> Option<(u32, u32)> {
+        let top = self.sheet.row_at(top)?;
+        let bottom = self.sheet.row_at(bottom)?;
+        Some((top, bottom))
+    }
+
+    fn span_cols(&self, left: u32, right: u32) -> Option<(u32, u32)> {
+        let left = self.sheet.col_at(left)?;
+        let right = self.sheet.col_at(right)?;
+        Some((left, right))
+    }
+}
+
 /// A formula as it was typed, its references by positions.
 fn formula_of(alloc: Global, sheet: &Sheet, entry: &Txt) -> Result<Content, EditErr>
     requires { length entry.now < 2 ^ 24 }
     ensures content { IfOk result (λ c. formula_entered sheet.now.rows sheet.now.cols (reading entry.now) ≡ Ok c) }
     ensures cause { IfErr result (λ e. e ≢ EditErr.Memory → formula_entered sheet.now.rows sheet.now.cols (reading entry.now) ≡ Err e) }
 {
+    // No position is above the size.
+    let _size = sheet.size();
     match parse(alloc, entry) {
         Ok(mut formula) => {
             rename(&mut formula, &Typed { sheet });

@@ -7,5 +7,3 @@ mod numbers;
 
 pub use edits::{clear, set};
 
-#[cfg(test)]
-mod tests;

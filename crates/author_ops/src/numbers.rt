@@ -1,9 +1,9 @@
-ghost use Rattle.std.specs.Prelude.{◌≡◌, ◌≤◌, ◌<◌, ◌+◌, ◌-◌, ◌*◌, ◌^◌, true, take, length, Some, None, IfOk, IfErr, IsTrue};
+ghost use Rattle.std.specs.Prelude.{◌≡◌, ◌≤◌, ◌<◌, ◌+◌, ◌-◌, ◌*◌, ◌^◌, true, ◌∷◌, take, length, Some, None, IfOk, IfErr, IsTrue};
 ghost use Rattle.std.specs.Option.{SomeIff};
 ghost use Rattle.std.specs.Char.{is_ascii_digit};
 ghost use Rattle.std.specs.List.{list_all};
 ghost use Rattle.std.specs.Str.Parse.{digits_value};
-ghost use Rattle.sheet_ops.specs.Numerals.{is_numeral};
+ghost use Rattle.sheet_ops.specs.Numerals.{is_numeral, are_digits};
 ghost use Rattle.author_ops.specs.Numbers.{number_of, number_front, signed_number};
 
 /// The number that an optional `-` and digits say, leading zeros too. Where it is outside the range of
@@ -16,11 +16,36 @@ pub fn read_number(text: &[u8]) -> Result<i64, u32>
     ensures front { IfErr result (λ front. front ≡ number_front text.now) }
 {
     match text {
-        [b'-', digits @ ..] => match value_up_to(digits, 1 << 63) {
-            Ok(size) => Ok(minus(size)),
-            Err(front) => Err(front + 1),
-        },
-        _ => Ok(value_up_to(text, (1 << 63) - 1)? as i64),
+        [b'-', digits @ ..] => behind_minus(digits),
+        _ => plain(text),
+    }
+}
+
+/// The same of the digits behind a `-`.
+fn behind_minus(digits: &[u8]) -> Result<i64, u32>
+    requires digits { are_digits digits.now ≡ true }
+    requires short { length digits.now + 1 < 2 ^ 32 }
+    ensures number { IfOk result (λ n. number_of (45 ∷ digits.now) ≡ Some n) }
+    ensures outside { IfErr result (λ front. number_of (45 ∷ digits.now) ≡ None) }
+    ensures front { IfErr result (λ front. front ≡ number_front (45 ∷ digits.now)) }
+{
+    match value_up_to(digits, 1 << 63) {
+        Ok(size) => Ok(minus(size)),
+        Err(front) => Err(front + 1),
+    }
+}
+
+/// The same of digits alone.
+fn plain(digits: &[u8]) -> Result<i64, u32>
+    requires digits { are_digits digits.now ≡ true }
+    requires short { length digits.now < 2 ^ 32 }
+    ensures number { IfOk result (λ n. number_of digits.now ≡ Some n) }
+    ensures outside { IfErr result (λ front. number_of digits.now ≡ None) }
+    ensures front { IfErr result (λ front. front ≡ number_front digits.now) }
+{
+    match value_up_to(digits, (1 << 63) - 1) {
+        Ok(size) => Ok(size as i64),
+        Err(front) => Err(front),
     }
 }
 

@@ -14,3 +14,4 @@ pub mod Functions
 pub mod Bytes
 pub mod Fronts
 pub mod Stops
+pub mod Readings

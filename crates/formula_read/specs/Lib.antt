@@ -4,3 +4,4 @@ pub mod Read
 pub mod Places
 pub mod Reading
 pub mod Standing
+pub mod Readings

@@ -7,6 +7,7 @@ mod front;
 mod kinds;
 mod laws;
 mod lexer;
+mod parser;
 mod partial;
 mod place;
 #[cfg(test)]
@@ -15,3 +16,4 @@ mod tests;
 pub use kinds::{ParseErr, Token, TokenKind};
 pub use laws::{text_fronts, token_fronts};
 pub use lexer::tokens;
+pub use parser::parse;

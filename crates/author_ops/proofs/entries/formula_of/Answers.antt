@@ -1,0 +1,23 @@
+use Rattle.std.proofs.Common.{ap, arith}
+use Rattle.ss_base.specs.declared.types.Size.{Size}
+use Rattle.formula_read.proofs.Readings.{reading, reading-is}
+use Rattle.author_ops.proofs.Formulas.{typed_mapped, entered_tree, entered_deep, entered_at}
+use Rattle.author_ops.proofs.entries.formula_of.Goals as goal
+
+pub rename-requires : goal.rename-requires
+rename-requires c =
+    let rows = ap (λ (s : Size). s.rows) c.size-size.ensures.size in
+    let cols = ap (λ (s : Size). s.cols) c.size-size.ensures.size in
+    typed_mapped c.args.sheet.now.rows c.args.sheet.now.cols (omega (arith, rows, c.size-size.ensures.rows)) (omega (arith, cols, c.size-size.ensures.cols)) c.in-Ok.formula
+
+pub returns-in-Ok-clause-content : goal.returns-in-Ok-clause-content
+returns-in-Ok-clause-content c =
+    entered_tree c.args.sheet.now.rows c.args.sheet.now.cols (reading c.args.entry.now) c.in-Ok.formula c.rename.new.formula (c.in-Ok.ensures (reading c.args.entry.now) (reading-is c.args.entry.now)) c.rename.ensures
+
+pub returns-in-Err-At-clause-cause : goal.returns-in-Err-At-clause-cause
+returns-in-Err-At-clause-cause c other =
+    entered_at c.args.sheet.now.rows c.args.sheet.now.cols (reading c.args.entry.now) c.in-Err-At.front (rw c.in-Err-At.field-0-is at c.in-Err-At.ensures (reading c.args.entry.now) (reading-is c.args.entry.now))
+
+pub returns-in-Err-Deep-clause-cause : goal.returns-in-Err-Deep-clause-cause
+returns-in-Err-Deep-clause-cause c other =
+    entered_deep c.args.sheet.now.rows c.args.sheet.now.cols (reading c.args.entry.now) (rw c.in-Err-Deep.field-0-is at c.in-Err-Deep.ensures (reading c.args.entry.now) (reading-is c.args.entry.now))
