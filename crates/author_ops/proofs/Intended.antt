@@ -69,9 +69,10 @@ module _ (P : PlacedSheet) where
   one_of false x y n h k = k
 
   between_inside : (a b : Spot) → CellFits size a → CellFits size b → RangeFits size (range_between a b)
-  between_inside a b h k =
-      ((one_of (nat_le a.row b.row) a.row b.row (length P.rows) h.0 k.0, one_of (nat_le a.col b.col) a.col b.col (length P.cols) h.1 k.1),
-      (one_of (nat_le a.row b.row) b.row a.row (length P.rows) k.0 h.0, one_of (nat_le a.col b.col) b.col a.col (length P.cols) k.1 h.1))
+  between_inside a b h k = (
+    (one_of (nat_le a.row b.row) a.row b.row (length P.rows) h.0 k.0, one_of (nat_le a.col b.col) a.col b.col (length P.cols) h.1 k.1),
+    (one_of (nat_le a.row b.row) b.row a.row (length P.rows) k.0 h.0, one_of (nat_le a.col b.col) b.col a.col (length P.cols) k.1 h.1),
+  )
 
   range_inside : (s r : Span) (a b : Option (ℕ × ℕ)) → option_and_then (λ rows. option_map (λ cols. span_at s rows cols) b) a ≡ Some r →
       ((p : ℕ × ℕ) → a ≡ Some p → (p.0 < length P.rows) × (p.1 < length P.rows)) → ((q : ℕ × ℕ) → b ≡ Some q → (q.0 < length P.cols) × (q.1 < length P.cols)) → RangeFits size r

@@ -35,9 +35,9 @@ formula_entered rows cols (stops p) = Err (fault.BadFormula p)
 -- of a number; one out of range is refused
 abbrev pub number_entered : List ℕ → Result Content EditErr
 number_entered entry = elim (number_of entry) as (λ _. Result Content EditErr) [
-    Some z ↦ Ok (content.Num z)
+  | Some z ↦ Ok (content.Num z)
   | None ↦ Err (fault.BadFormula (number_front entry))
-  ]
+]
 
 -- Behind `=` stands a formula and behind `'` a text; else an entry that is a `-` or none and digits is a number, and any
 -- other one the text that it is. By the marks of the rows and of the columns.

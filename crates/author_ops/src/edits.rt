@@ -34,8 +34,10 @@ pub fn clear(alloc: Global, sheet: &Sheet, at: &Spot) -> Result<Intent, EditErr>
     ensures intent { IfOk result (λ op. intended_by sheet.now.rows sheet.now.cols (edit.Clear at.now) ≡ Ok op) }
     ensures cause { IfErr result (λ e. e ≢ EditErr.Memory → intended_by sheet.now.rows sheet.now.cols (edit.Clear at.now) ≡ Err e) }
 {
-    let (row, col) = place_of(sheet, at).ok_or(EditErr::OutOfSheet)?;
-    light(write_one(alloc, row, col, Content::Empty)?)
+    match place_of(sheet, at) {
+        Some((row, col)) => light(write_one(alloc, row, col, Content::Empty)?),
+        None => Err(EditErr::OutOfSheet),
+    }
 }
 
 /// The positions of a cell by its visible indexes.

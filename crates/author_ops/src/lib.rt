@@ -7,3 +7,5 @@ mod numbers;
 
 pub use edits::{clear, set};
 
+#[cfg(test)]
+mod tests;

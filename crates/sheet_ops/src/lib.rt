@@ -11,3 +11,6 @@ pub use content::{Content, Put};
 pub use edit::{Edit, EditErr};
 pub use numeral::is_numeral;
 pub use operation::{Effect, Entry, Intent};
+
+#[cfg(test)]
+mod tests;

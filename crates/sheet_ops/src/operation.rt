@@ -47,9 +47,7 @@ fn weight_of_puts(puts: &[Put]) -> u32
 {
     let mut total = 0u32;
     for put in puts {
-        total = total
-            .saturating_add(put.content.weight())
-            .saturating_add(1);
+        total = total.saturating_add(put.content.weight()).saturating_add(1);
     }
     total
 }

@@ -61,5 +61,17 @@ fn refuses(rt: HostRuntime) -> Result<(), Fail> {
         refusal(alloc, 1004, EditErr::Spent)?.bytes(),
         b"refused 1004 spent\n".as_slice()
     );
+    assert_eq!(rt;
+        refusal(alloc, 6, EditErr::BadFormula(18))?.bytes(),
+        b"refused 6 at 18\n".as_slice()
+    );
+    assert_eq!(rt;
+        refusal(alloc, 4, EditErr::Deep)?.bytes(),
+        b"refused 4 deep\n".as_slice()
+    );
+    assert_eq!(rt;
+        refusal(alloc, 3, EditErr::Heavy(513))?.bytes(),
+        b"refused 3 heavy 513\n".as_slice()
+    );
     Ok(())
 }

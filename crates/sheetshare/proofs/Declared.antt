@@ -16,7 +16,6 @@ use Rattle.cell_addr.specs.Cells.{cell_of}
 use Rattle.cell_addr.specs.Rows.{counted}
 use Rattle.script_read.specs.Script.{Declared, LineTurn, goes, stops, refused_at, by_site, by_all, turn_of, is_declared}
 use Rattle.script_read.specs.declared.script.ScriptKind.TheVariants as kind
-use Rattle.sheet_ops.specs.declared.edit.Edit.TheVariants as edit
 use Rattle.sheet_ops.specs.declared.edit.Edit.{Edit}
 use Rattle.sheet_ops.specs.declared.edit.EditErr.{EditErr}
 use Rattle.sheet_ops.specs.declared.edit.EditErr.TheVariants as fault

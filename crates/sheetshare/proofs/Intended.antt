@@ -1,19 +1,14 @@
 -- Edits that are done, and those that are refused because the operations are spent.
-use Rattle.std.proofs.Common.{◌≡◌, ℕ, zero, suc, ◌+◌, ◌<◌, ◌≤◌, Bool, true, false, cond, List, [], ◌∷◌, length, refl, subst, arith, Some, None, Option, Ok, Err}
-use Rattle.std.specs.Prelude.{nat_lt, slice_get, Result}
+use Rattle.std.proofs.Common.{◌≡◌, ℕ, ◌<◌, ◌≤◌, Bool, true, false, cond, List, [], ◌∷◌, length, refl, arith, Ok, Err}
+use Rattle.std.specs.Prelude.{nat_lt, Result}
 use Rattle.std.proofs.lemmas.Bool.Decides.{nat_tests}
 use Rattle.std.proofs.lemmas.List.Sums.{sum_by-cons}
-use Rattle.sheet_ops.specs.declared.content.Content.{Content}
-use Rattle.sheet_ops.specs.declared.content.Content.TheVariants as content
-use Rattle.sheet_ops.specs.declared.edit.Edit.{Edit}
-use Rattle.sheet_ops.specs.declared.edit.Edit.TheVariants as edit
 use Rattle.sheet_ops.specs.declared.edit.EditErr.{EditErr}
 use Rattle.sheet_ops.specs.declared.edit.EditErr.TheVariants as fault
 use Rattle.sheet_ops.specs.declared.operation.Entry.{Entry}
 use Rattle.sheet_ops.specs.declared.operation.Intent.{Intent}
 use Rattle.sheet_ops.specs.declared.operation.Intent.TheVariants as intent
-use Rattle.sheet_ops.specs.Fits.{IntentFits, EffectFits, ContentFits}
-use Rattle.sheet_ops.specs.Lines.{visible_from, visible_places}
+use Rattle.sheet_ops.specs.Fits.{IntentFits, EffectFits}
 use Rattle.sheet_ops.specs.Naming.{operations_of, effect_of_intent}
 use Rattle.sheet_ops.specs.Placed.{PlacedSheet, placed_size}
 use Rattle.sheet_ops.specs.History.{operations}

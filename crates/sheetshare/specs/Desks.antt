@@ -10,6 +10,7 @@ use Rattle.script_read.specs.Script.{Declared, nothing_declared, LineTurn, goes,
 use Rattle.sheetshare.specs.declared.desk.Outcome.{Outcome}
 use Rattle.sheetshare.specs.declared.desk.Outcome.TheVariants as outcome
 use Rattle.sheetshare.specs.Transcript.{printed}
+use Rattle.sheetshare.specs.Replicas.{IsShort}
 use Rattle.sheetshare.specs.World.{World, no_world, after}
 
 -- what the lines so far have declared, and the state of the run

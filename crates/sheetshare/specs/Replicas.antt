@@ -1,7 +1,8 @@
 -- What a replica does, by what it keeps.
-use Rattle.std.specs.Prelude.{◌+◌, nat_eq, if◌then◌else◌, List, [], ◌∷◌, ◌++◌, drop, Result, Ok, Err}
+use Rattle.std.specs.Prelude.{◌<◌, ◌^◌, length, ◌+◌, nat_eq, if◌then◌else◌, List, [], ◌∷◌, ◌++◌, drop, Result, Ok, Err}
 use Rattle.ss_base.specs.declared.types.Site.{Site}
 use Rattle.sheet_ops.specs.declared.edit.Edit.{Edit}
+use Rattle.sheet_ops.specs.declared.edit.Edit.TheVariants as edit
 use Rattle.sheet_ops.specs.declared.edit.EditErr.{EditErr}
 use Rattle.sheet_ops.specs.declared.operation.Entry.{Entry}
 use Rattle.sheet_ops.specs.declared.operation.Intent.{Intent}
