@@ -7,7 +7,6 @@ mod front;
 mod kinds;
 mod laws;
 mod lexer;
-mod parser;
 mod partial;
 mod place;
 #[cfg(test)]
@@ -16,4 +15,3 @@ mod tests;
 pub use kinds::{ParseErr, Token, TokenKind};
 pub use laws::{text_fronts, token_fronts};
 pub use lexer::tokens;
-pub use parser::parse;
