@@ -3,3 +3,7 @@ pub mod Longest
 pub mod Read
 pub mod Places
 pub mod Reading
+pub mod Nested
+pub mod FunctionNames
+pub mod Stack
+pub mod Steps

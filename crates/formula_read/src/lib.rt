@@ -4,11 +4,16 @@
 
 mod kinds;
 mod laws;
+mod leaves;
 mod lexer;
+mod operand;
 mod partial;
+mod stack;
+mod steps;
 #[cfg(test)]
 mod tests;
+mod tree;
 
 pub use kinds::{ParseErr, Token, TokenKind};
-pub use laws::{text_fronts, token_fronts};
+pub use laws::{one_reading, text_fronts, token_fronts};
 pub use lexer::tokens;
