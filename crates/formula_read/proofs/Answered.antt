@@ -1,6 +1,6 @@
 -- what the reader of trees answers for a text
 use Rattle.std.proofs.Common.{◌≡◌, ℕ, ◌+◌, ◌^◌, ◌<◌, ◌≤◌, List, ◌∷◌, length, drop, Option, Some, None, Ok, Err, ap, sym, ◌∙◌, subst, arith}
-use Rattle.std.specs.Prelude.{reverse}
+use Rattle.std.specs.Prelude.{Result, reverse}
 use Rattle.ss_base.specs.declared.types.Spot.{Spot}
 use Rattle.ss_base.specs.declared.types.Span.{Span}
 use Rattle.formula_tree.specs.Tree.{Tree}
@@ -9,7 +9,9 @@ use Rattle.formula_tree.specs.Tokens.{Token}
 use Rattle.formula_tree.specs.Lexing.{Lexeme, Lexes}
 use Rattle.formula_tree.specs.Grammar.{Stands}
 use Rattle.formula_read.specs.declared.kinds.ParseErr.{ParseErr}
-use Rattle.formula_read.specs.declared.kinds.ParseErr.TheVariants.{At, Deep, Memory}
+use Rattle.formula_read.specs.declared.kinds.ParseErr.TheVariants.{At}
+use Rattle.formula_read.specs.declared.stop.Stop.{Stop}
+use Rattle.formula_read.specs.declared.stop.Stop.TheVariants as stop
 use Rattle.formula_read.specs.declared.stack.Frame.{Frame}
 use Rattle.formula_read.specs.declared.stack.Side.{Side}
 use Rattle.formula_read.specs.Nested.{Nested, ReadAs}
@@ -37,7 +39,7 @@ module _ (ts : List Token) (i : ℕ) (t : Token) (side : Side) (frames : List Fr
       finished_at (walked (Some start) ts) ≡ finished_at (walked (Some (record { side = p; frames = reverse fs })) (drop (i + 1) ts))
   walk_goes p fs h = one_more ∙ ap (λ (o : Option State). finished_at (walked o (drop (i + 1) ts))) (given_some p fs (stepped side (reverse frames) t) h)
 
-  pub walk_refused : (e : ParseErr) (fs : List Frame) → Gives (Err e) fs (stepped side (reverse frames) t) → Answers (Err e) (finished_at (walked (Some start) ts))
+  pub walk_refused : (e : Stop) (fs : List Frame) → Gives (Err e) fs (stepped side (reverse frames) t) → Answers (Err e) (finished_at (walked (Some start) ts))
   walk_refused e fs h = subst (λ (o : Option Nested). Answers (Err e) o) (sym one_more) (refused_step e fs (stepped side (reverse frames) t) (drop (i + 1) ts) h)
 
 -- The tokens of a formula's text lead to its tree and nesting.
@@ -50,13 +52,11 @@ module _ (text : List ℕ) (ls : List Lexeme) (l : Lexes 0 text ls) where
   abbrev answer : Option Nested
   answer = finished_at (walked (Some start) (tokens_of ls))
 
-  pub answer_refused : (e : ParseErr) → Answers (Err e) answer → (t : Tree Spot Span) (n : ℕ) → Stands text t n → ReadAs (Err e) t n
-  answer_refused e h t n stands = by_error e (subst (λ (o : Option Nested). Answers (Err e) o) (text_walked text ls t n l stands) h)
-    where
-      by_error : (e : ParseErr) → Answers (Err e) (Some (record { tree = t; nesting = n })) → ReadAs (Err e) t n
-      by_error Deep h = h
-      by_error Memory h = tt
-      by_error (At p) h = nothing (sym h)
+  pub answer_deep : Answers (Err stop.Deep) answer → (t : Tree Spot Span) (n : ℕ) → Stands text t n → 64 < n
+  answer_deep h t n stands = subst (λ (o : Option Nested). Answers (Err stop.Deep) o) (text_walked text ls t n l stands) h
+
+  pub answer_outside : Answers (Err stop.Outside) answer → IsFormulaText text → ⊥
+  answer_outside h (t, n, stands) = nothing (sym h ∙ text_walked text ls t n l stands)
 
   answer_is : (x : Nested) → Answers (Ok x) answer → (t : Tree Spot Span) (n : ℕ) → Stands text t n → x ≡ record { tree = t; nesting = n }
   answer_is x h t n stands = subst (λ (o : Option Nested). Answers (Ok x) o) (text_walked text ls t n l stands) h
@@ -72,3 +72,7 @@ module _ (text : List ℕ) (ls : List Lexeme) (l : Lexes 0 text ls) where
       let e = answer_is x h t n stands in
       let nesting : x.nesting ≡ n = λ i. (e i).nesting in
       (whole ∙ (λ i. (e i).tree), omega arith)
+
+-- a formula's text isn't refused at a place
+pub no_place : (text : List ℕ) (r : Result (Tree Spot Span) ParseErr) (p : ℕ) → r ≡ Err (At p) → ((t : Tree Spot Span) (n : ℕ) → Stands text t n → ReadAs r t n) → IsFormulaText text → ⊥
+no_place text r p e reads (t, n, stands) = subst (λ (r : Result (Tree Spot Span) ParseErr). ReadAs r t n) e (reads t n stands)

@@ -27,8 +27,8 @@ use Rattle.formula_read.specs.Partial.{corner_step, step, begun, word, name_step
 use Rattle.formula_read.specs.Longest.{run, first_byte}
 use Rattle.formula_tree.specs.Grammar.{IsFront}
 use Rattle.formula_read.specs.Read.{kind_of}
-use Rattle.formula_read.specs.Places.{Bracket, group, call, Place, head, wants, has, named, begins, operand, closed, parted, advance, advance_all, tokens_of}
-use Rattle.formula_read.specs.Reading.{operand_of, after_kind, begins_leaf, begins_operand, begins_sign, admits, with_token, entered, between, between_at, place_after, inside, is_fresh, read_byte, read_text}
+use Rattle.formula_read.specs.Places.{Bracket, group, call, Place, head, wants, has, named, begins, operand, closed, parted, advance, advance_all, tokens_of, IsFormulaText}
+use Rattle.formula_read.specs.Reading.{operand_of, after_kind, begins_leaf, begins_operand, begins_sign, admits, with_token, entered, between, between_at, place_after, inside, is_fresh, read_byte, read_text, ended}
 use Rattle.formula_read.proofs.Addresses.{cell_spelled, corner_completes}
 use Rattle.formula_read.proofs.Words.{corner_next, run_cell, run_range, run_name}
 use Rattle.formula_read.proofs.Choices.{on_test, nothing, same, same_number, is_digit_by_value}
@@ -705,60 +705,68 @@ conflict q p piece token.closing b bs s next k at ls n' runs ends goes m l alive
 conflict q p piece token.semicolon b bs s next k at ls n' runs ends goes m l alive = step_none s (Whole kind.Semi) b next (same (sym runs ∙ ap (run (Some Fresh)) n'.fits.0)) refl goes
 
 -- the end of a token, or the byte behind it
-token_ends : (q p : Place) (piece : List ℕ) (t : Token) (behind : List ℕ) (s : Partial) (at : ℕ) (ls : List Lexeme) → IsNext piece t behind → run (Some Fresh) piece ≡ Some s → piece ≢ [] →
-    advance q t ≡ Some p → Lexes at (past_spaces behind) ls → advance_all (Some p) (tokens_of ls) ≢ None → read_text (Some (p, Fresh)) (past_spaces behind) ≢ None → read_text (Some (q, s)) behind ≢ None
-token_ends q p piece t [] s at ls n runs some m l alive rest = λ e. absurd (cc)
-token_ends q p piece t (b ∷ bs) s at ls n runs some m l alive rest =
-    let (k, (s', also, ends')) = complete piece t (b ∷ bs) n.fits in
-    let ends : kind_at s (Some b) ≡ Some k = ap (λ (s : Partial). kind_at s (Some b)) (same (sym runs ∙ also)) ∙ ends' in
-    by_step k ends (step s b) refl
+token_ends : (q p last : Place) (piece : List ℕ) (t : Token) (behind : List ℕ) (s : Partial) (at : ℕ) (ls : List Lexeme) → IsNext piece t behind → run (Some Fresh) piece ≡ Some s → piece ≢ [] →
+    advance q t ≡ Some p → Lexes at (past_spaces behind) ls → advance_all (Some p) (tokens_of ls) ≢ None → ended (read_text (Some (p, Fresh)) (past_spaces behind)) ≡ Some last →
+    ended (read_text (Some (q, s)) behind) ≡ Some last
+token_ends q p last piece t behind s at ls n runs some m l alive rest = by_rest behind n l rest (complete piece t behind n.fits)
   where
-    by_step : (k : TokenKind) → kind_at s (Some b) ≡ Some k → (o : Option Partial) → step s b ≡ o → read_text (read_byte q s b) bs ≢ None
-    by_step k ends (Some next) goes = absurd (conflict q p piece t b bs s next k at ls n runs ends goes m l alive)
-    by_step k ends None goes =
-        let kinds = next_kind piece t (b ∷ bs) k n (s, runs, ends) in
-        let place : place_after q (kind_at s (Some b)) ≡ Some p = ap (place_after q) ends ∙ (ap (after_kind q) (sym kinds) ∙ advance_kind q t p m) in
-        let moved : read_byte q s b ≡ between p b = byte_inside q s b piece None some runs goes ∙ ap (λ (o : Option Place). between_at o b) place in
-        let whole : read_text (read_byte q s b) bs ≡ read_text (Some (p, Fresh)) (past_spaces (b ∷ bs)) =
-        ap (λ (r : Option (Place × Partial)). read_text r bs) moved ∙ spaces_read p (advance_inside q t p m) (b ∷ bs) in
-        λ e. rest (sym whole ∙ e)
+    kind_there : (behind : List ℕ) (k : TokenKind) → Ends piece behind k → kind_at s (first_byte behind) ≡ Some k
+    kind_there behind k (s', also, ends') = ap (λ (s : Partial). kind_at s (first_byte behind)) (same (sym runs ∙ also)) ∙ ends'
 
--- the text of tokens that a formula may begin with is read to its end
-pub text_alive : {at : ℕ} {bs : List ℕ} {ls : List Lexeme} → Lexes at bs ls → (q : Place) → advance_all (Some q) (tokens_of ls) ≢ None → read_text (Some (q, Fresh)) bs ≢ None
-text_alive cut.end q alive = λ e. absurd (cc)
-text_alive (cut.next {at = at} {piece = piece} {behind = behind} {t = t} {ls = ls} n more) q alive = by_place (advance q t) refl (λ p alive. text_alive more p alive)
+    place_there : (behind : List ℕ) → IsNext piece t behind → (k : TokenKind) → Ends piece behind k → place_after q (kind_at s (first_byte behind)) ≡ Some p
+    place_there behind n k e = ap (place_after q) (kind_there behind k e) ∙ (ap (after_kind q) (sym (next_kind piece t behind k n e)) ∙ advance_kind q t p m)
+
+    by_rest : (behind : List ℕ) → IsNext piece t behind → Lexes at (past_spaces behind) ls → ended (read_text (Some (p, Fresh)) (past_spaces behind)) ≡ Some last →
+        (k : TokenKind) × Ends piece behind k → ended (read_text (Some (q, s)) behind) ≡ Some last
+    by_rest [] n l rest (k, e) =
+        ap (λ (t : Bool). cond t (Some q) (place_after q (kind_at s None))) (not_fresh s piece some runs) ∙ (place_there [] n k e ∙ rest)
+    by_rest (b ∷ bs) n l rest (k, e) = by_step (step s b) refl
+      where
+        by_step : (o : Option Partial) → step s b ≡ o → ended (read_text (read_byte q s b) bs) ≡ Some last
+        by_step (Some next) goes = absurd (conflict q p piece t b bs s next k at ls n runs (kind_there (b ∷ bs) k e) goes m l alive)
+        by_step None goes =
+            let moved : read_byte q s b ≡ between p b = byte_inside q s b piece None some runs goes ∙ ap (λ (o : Option Place). between_at o b) (place_there (b ∷ bs) n k e) in
+            ap (λ (r : Option (Place × Partial)). ended (read_text r bs)) moved ∙ (ap ended (spaces_read p (advance_inside q t p m) (b ∷ bs)) ∙ rest)
+
+-- the reader of a text's bytes ends where that of its tokens does
+pub text_ended : {at : ℕ} {bs : List ℕ} {ls : List Lexeme} → Lexes at bs ls → (q last : Place) → advance_all (Some q) (tokens_of ls) ≡ Some last → ended (read_text (Some (q, Fresh)) bs) ≡ Some last
+text_ended cut.end q last read = read
+text_ended (cut.next {at = at} {piece = piece} {behind = behind} {t = t} {ls = ls} n more) q last read = by_place (advance q t) refl (λ p read. text_ended more p last read)
   where
     by_piece : (piece : List ℕ) → IsNext piece t behind → (p : Place) → advance q t ≡ Some p → (s : Partial) → run (Some Fresh) piece ≡ Some s →
-        read_text (Some (q, s)) behind ≢ None → read_text (Some (q, Fresh)) (piece ++ behind) ≢ None
+        ended (read_text (Some (q, s)) behind) ≡ Some last → ended (read_text (Some (q, Fresh)) (piece ++ behind)) ≡ Some last
     by_piece [] n p m s runs rest = absurd (no_empty_token t behind n.fits)
     by_piece (b ∷ bs) n p m s runs rest = by_begun (begun b) refl runs
       where
-        by_begun : (o : Option Partial) → begun b ≡ o → run o bs ≡ Some s → read_text (read_byte q Fresh b) (bs ++ behind) ≢ None
+        by_begun : (o : Option Partial) → begun b ≡ o → run o bs ≡ Some s → ended (read_text (read_byte q Fresh b) (bs ++ behind)) ≡ Some last
         by_begun None e runs = nothing runs
         by_begun (Some s0) e runs =
             let first = starts t b bs n.fits.0 in
             let entered' : between q b ≡ Some (q, s0) = enters q b s0 (no_space b s0 e) (advance_admits q t p b m first) e in
             let whole : read_text (read_byte q Fresh b) (bs ++ behind) ≡ read_text (Some (q, s)) behind =
             ap (λ (r : Option (Place × Partial)). read_text r (bs ++ behind)) entered' ∙ read_piece q (b ∷ []) bs s0 s behind (λ e. absurd (cc)) (ap (λ (o : Option Partial). run o []) e) runs in
-            λ none. rest (sym whole ∙ none)
+            ap ended whole ∙ rest
 
-    by_place : (o : Option Place) → advance q t ≡ o → ((p : Place) → advance_all (Some p) (tokens_of ls) ≢ None → read_text (Some (p, Fresh)) (past_spaces behind) ≢ None) →
-        read_text (Some (q, Fresh)) (piece ++ behind) ≢ None
-    by_place None k again = absurd (alive (ap (λ (o : Option Place). advance_all o (tokens_of ls)) k))
+    by_place : (o : Option Place) → advance q t ≡ o → ((p : Place) → advance_all (Some p) (tokens_of ls) ≡ Some last → ended (read_text (Some (p, Fresh)) (past_spaces behind)) ≡ Some last) →
+        ended (read_text (Some (q, Fresh)) (piece ++ behind)) ≡ Some last
+    by_place None k again = absurd (let clash : None ≡ Some last = sym (ap (λ (o : Option Place). advance_all o (tokens_of ls)) k) ∙ read in cc)
     by_place (Some p) k again =
-        let left : advance_all (Some p) (tokens_of ls) ≢ None = λ e. alive (ap (λ (o : Option Place). advance_all o (tokens_of ls)) k ∙ e) in
+        let left : advance_all (Some p) (tokens_of ls) ≡ Some last = sym (ap (λ (o : Option Place). advance_all o (tokens_of ls)) k) ∙ read in
+        let alive : advance_all (Some p) (tokens_of ls) ≢ None = λ none. absurd (let clash : None ≡ Some last = sym none ∙ left in cc) in
         let (s, runs) = fits_reached piece t behind n.fits in
         let some : piece ≢ [] = λ e. no_empty_token t behind (subst (λ (l : List ℕ). Fits l t behind) e n.fits) in
-        by_piece piece n p k s runs (token_ends q p piece t behind s _ ls n runs some k more left (again p left))
+        by_piece piece n p k s runs (token_ends q p last piece t behind s _ ls n runs some k more alive (again p left))
 
 pub read_text-append : (r : Option (Place × Partial)) (xs ys : List ℕ) → read_text r (xs ++ ys) ≡ read_text (read_text r xs) ys
 read_text-append None xs ys = refl
 read_text-append (Some r) [] ys = refl
 read_text-append (Some r) (x ∷ xs) ys = read_text-append (read_byte r.0 r.1 x) xs ys
 
--- a formula's front is read
+-- a formula's text is read to its end, and a front of it is read
+pub formula_ended : (bs : List ℕ) → IsFormulaText bs → ended (read_text (Some (head, Fresh)) bs) ≡ Some (has [])
+formula_ended bs h = let (ls, l, r) = tokens_read bs h in text_ended l head (has []) r
+
 pub front_alive : (bs : List ℕ) → IsFront bs → read_text (Some (head, Fresh)) bs ≢ None
 front_alive bs (rest, t, n, stands) e =
-    let (ls, l, r) = tokens_read (bs ++ rest) (t, n, stands) in
-    let alive : advance_all (Some head) (tokens_of ls) ≢ None = λ none. absurd (let clash : None ≡ Some (has []) = sym none ∙ r in cc) in
-    text_alive l head alive (read_text-append (Some (head, Fresh)) bs rest ∙ ap (λ (r : Option (Place × Partial)). read_text r rest) e)
+    let stops : read_text (Some (head, Fresh)) (bs ++ rest) ≡ None = read_text-append (Some (head, Fresh)) bs rest ∙ ap (λ (r : Option (Place × Partial)). read_text r rest) e in
+    absurd (let clash : None ≡ Some (has []) = sym (ap ended stops) ∙ formula_ended (bs ++ rest) (t, n, stands) in cc)

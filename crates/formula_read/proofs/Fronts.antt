@@ -22,8 +22,8 @@ use Rattle.formula_read.specs.Partial.{step, begun, address_kind, is_open, kind_
 use Rattle.formula_read.specs.Longest.{run}
 use Rattle.formula_tree.specs.Grammar.{IsFront}
 use Rattle.formula_read.specs.Read.{kind_of}
-use Rattle.formula_read.specs.Places.{Bracket, group, call, Place, head, wants, has, named, begins, operand, closed, parted, advance, advance_all, tokens_of}
-use Rattle.formula_read.specs.Reading.{after_kind, begins_leaf, begins_operand, begins_sign, admits, with_token, entered, between, between_at, place_after, inside, is_fresh, read_byte, read_text}
+use Rattle.formula_read.specs.Places.{Bracket, group, call, Place, head, wants, has, named, begins, operand, closed, parted, advance, advance_all, tokens_of, IsFormulaText}
+use Rattle.formula_read.specs.Reading.{after_kind, begins_leaf, begins_operand, begins_sign, admits, with_token, entered, between, between_at, place_after, inside, is_fresh, read_byte, read_text, place_at_end, ended}
 use Rattle.formula_read.proofs.Words.{run_cell, run_range, run_name}
 use Rattle.formula_read.proofs.Choices.{on_test, nothing, same, same_number}
 use Rattle.formula_read.proofs.Forms.{Ends, run-append, fresh_holds, sound, name_ends, plain_ends}
@@ -599,13 +599,16 @@ text_goes p q s last bs (b ∷ more) h m = by_byte (read_byte p s b) refl m (λ 
     by_byte None k m again = nothing m
     by_byte (Some (r, t)) k m again = subst (λ (l : List ℕ). Before q last l) (append_assoc bs (b ∷ []) more) (again r t (byte_goes p r s t b bs h k) m)
 
--- a text that goes on to a formula
-finish : (bs v : List ℕ) (ts us : List Token) (p : Place) → CutAs (bs ++ v) (ts ++ us) → advance_all (Some head) ts ≡ Some p → advance_all (Some p) us ≡ Some (has []) → IsFront bs
-finish bs v ts us p cuts placed ended' =
+-- a text that is cut into a formula's tokens
+cut_formula : (bs : List ℕ) (ts us : List Token) (p : Place) → CutAs bs (ts ++ us) → advance_all (Some head) ts ≡ Some p → advance_all (Some p) us ≡ Some (has []) → IsFormulaText bs
+cut_formula bs ts us p cuts placed ended' =
     let (ls, l, e) = cuts 0 in
     let whole = advance_all-append (Some head) ts us ∙ (ap (λ (o : Option Place). advance_all o us) placed ∙ ended') in
-    let (t, n, stands) = read_tokens (bs ++ v) (ls, l, ap (advance_all (Some head)) e ∙ whole) in
-    (v, t, n, stands)
+    read_tokens bs (ls, l, ap (advance_all (Some head)) e ∙ whole)
+
+-- a text that goes on to a formula
+finish : (bs v : List ℕ) (ts us : List Token) (p : Place) → CutAs (bs ++ v) (ts ++ us) → advance_all (Some head) ts ≡ Some p → advance_all (Some p) us ≡ Some (has []) → IsFront bs
+finish bs v ts us p cuts placed ended' = let (t, n, stands) = cut_formula (bs ++ v) ts us p cuts placed ended' in (v, t, n, stands)
 
 before_front : (p : Place) (s : Partial) (bs : List ℕ) → Before p s bs → IsFront bs
 before_front p s bs h = by_part h.part refl h.first
@@ -631,6 +634,37 @@ before_front p s bs h = by_part h.part refl h.first
         finish bs v h.tokens us p (subst (λ (l : List ℕ). CutAs l (h.tokens ++ us)) (sym (goes_on v)) (h.cut v us here)) h.place
         (ap (λ (o : Option Place). advance_all o (ending_tokens q)) m ∙ ending_read q)
 
+-- a text that ends where a formula may end
+before_formula : (p : Place) (s : Partial) (bs : List ℕ) → Before p s bs → place_at_end p s ≡ Some (has []) → IsFormulaText bs
+before_formula p s bs h e = on_test (is_fresh s) _ _ (has []) e between_tokens (λ k e. by_kind (some k) (kind_at s None) refl e)
+  where
+    -- where these tokens are what is left
+    ends_with : (us : List Token) → CutAs (h.part ++ []) us → advance_all (Some p) us ≡ Some (has []) → IsFormulaText bs
+    ends_with us c read =
+        let here : CutAs (skipped p (h.part ++ [])) us = subst (λ (l : List ℕ). CutAs l us) (sym (skipped_tight p (h.part ++ []) (cut_as_tight (h.part ++ []) us c))) c in
+        let whole : h.done ++ (h.part ++ []) ≡ bs = (λ i. h.done ++ append-nil h.part i) ∙ sym h.split in
+        cut_formula bs h.tokens us p (subst (λ (l : List ℕ). CutAs l (h.tokens ++ us)) whole (h.cut [] us here)) h.place read
+
+    between_tokens : is_fresh s ≡ true → Some p ≡ Some (has []) → IsFormulaText bs
+    between_tokens k e =
+        let none : h.part ≡ [] = fresh_holds h.part Fresh (h.state ∙ ap Some (fresh_is s k)) in
+        ends_with [] (subst (λ (l : List ℕ). CutAs (l ++ []) []) (sym none) cut_none) e
+
+    some : is_fresh s ≡ false → h.part ≢ []
+    some k e = absurd (let wrong : true ≡ false = ap is_fresh (same (ap (run (Some Fresh)) (sym e) ∙ h.state)) ∙ k in cc)
+
+    by_part : h.part ≢ [] → (k : TokenKind) → kind_at s None ≡ Some k → after_kind p k ≡ Some (has []) → (x : List ℕ) → h.part ≡ x → Admitted p x → IsFormulaText bs
+    by_part some k ends after [] e first = absurd (some e)
+    by_part some k ends after (c ∷ x) e first =
+        let (t, fits, is) = sound s h.part [] k (fresh_holds h.part s h.state) ends in
+        let (q, m) = advance_some p t c (starts t c x (subst (λ (l : List ℕ). Spells l t) e fits.0)) first in
+        let places : q ≡ has [] = same (sym (advance_kind p t q m) ∙ (ap (after_kind p) is ∙ after)) in
+        ends_with (t ∷ []) (cut_more h.part t [] [] (last_token h.part t fits) cut_none) (ap (λ (o : Option Place). advance_all o []) m ∙ ap Some places)
+
+    by_kind : h.part ≢ [] → (o : Option TokenKind) → kind_at s None ≡ o → place_after p o ≡ Some (has []) → IsFormulaText bs
+    by_kind some None ends after = nothing after
+    by_kind some (Some k) ends after = by_part some k ends after h.part refl h.first
+
 -- where the reader stands somewhere, some formula begins so
 pub alive_front : (bs : List ℕ) → read_text (Some (head, Fresh)) bs ≢ None → IsFront bs
 alive_front bs some = by_end (read_text (Some (head, Fresh)) bs) refl
@@ -638,3 +672,11 @@ alive_front bs some = by_end (read_text (Some (head, Fresh)) bs) refl
     by_end : (o : Option (Place × Partial)) → read_text (Some (head, Fresh)) bs ≡ o → IsFront bs
     by_end None m = absurd (some m)
     by_end (Some (p, s)) m = before_front p s bs (text_goes head p Fresh s [] bs before_none m)
+
+-- where it ends with an operand outside all brackets, the text is a formula's
+pub ended_formula : (bs : List ℕ) → ended (read_text (Some (head, Fresh)) bs) ≡ Some (has []) → IsFormulaText bs
+ended_formula bs e = by_end (read_text (Some (head, Fresh)) bs) refl e
+  where
+    by_end : (o : Option (Place × Partial)) → read_text (Some (head, Fresh)) bs ≡ o → ended o ≡ Some (has []) → IsFormulaText bs
+    by_end None m e = nothing e
+    by_end (Some (p, s)) m e = before_formula p s bs (text_goes head p Fresh s [] bs before_none m) e

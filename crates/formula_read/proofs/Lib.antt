@@ -22,3 +22,4 @@ pub mod Nestings
 pub mod Pieces
 pub mod Turns
 pub mod Answered
+pub mod Stops

@@ -6,8 +6,8 @@ use Rattle.std.proofs.lemmas.List.{reverse-append, reverse-reverse}
 use Rattle.formula_tree.specs.Precedence.{precedence_of_operator}
 use Rattle.formula_tree.specs.declared.operators.BinOp.TheVariants.{Pow, Mul, Div, Add, Sub, Join, Eq, Ne, Lt, Le, Gt, Ge}
 use Rattle.formula_tree.specs.Tokens.{Token, numeral, text, fault, cell, range, name, sign, opening, closing, semicolon}
-use Rattle.formula_read.specs.declared.kinds.ParseErr.{ParseErr}
-use Rattle.formula_read.specs.declared.kinds.ParseErr.TheVariants.{At, Deep, Memory}
+use Rattle.formula_read.specs.declared.stop.Stop.{Stop}
+use Rattle.formula_read.specs.declared.stop.Stop.TheVariants.{Outside, Deep, Memory}
 use Rattle.formula_read.specs.declared.stack.Frame.{Frame}
 use Rattle.formula_read.specs.declared.stack.Frame.TheVariants.{Sign, Left, Group, Call}
 use Rattle.formula_read.specs.declared.stack.Side.{Side}
@@ -148,9 +148,9 @@ finished_deeper n (Some s) d = by_side s.side d
     by_side (Has x) d = let more = settled_deeper 1 x s.frames in alone_deeper n (settled 1 x s.frames) (omega arith)
 
 -- a refused step refuses the text
-pub refused_step : (e : ParseErr) (fs : List Frame) (o : Option State) (ts : List Token) → Gives (Err e) fs o → Answers (Err e) (finished_at (walked o ts))
+pub refused_step : (e : Stop) (fs : List Frame) (o : Option State) (ts : List Token) → Gives (Err e) fs o → Answers (Err e) (finished_at (walked o ts))
 refused_step Memory fs o ts h = tt
-refused_step (At p) fs o ts h = ap (λ (o : Option State). finished_at (walked o ts)) h
+refused_step Outside fs o ts h = ap (λ (o : Option State). finished_at (walked o ts)) h
 refused_step Deep fs o ts h = by_answer (finished_at (walked o ts)) (finished_deeper 65 (walked o ts) (walked_deeper 65 o ts (deep o h)))
   where
     deep : (o : Option State) → Gives (Err Deep) fs o → Deepens 65 o
@@ -168,9 +168,9 @@ module _ (p : ℕ) (x : Nested) (f : Frame) (old new : List Frame) (goal : Neste
       sym (ap (λ (t : Bool). cond t (settled p (joined f x) (reverse new)) (x, f ∷ reverse new)) (lt-ltb p (wanted f) tight))
       ∙ (ap (settled p x) (sym (reverse-append new (f ∷ []))) ∙ (ap (λ (fs : List Frame). settled p x (reverse fs)) (sym cut) ∙ whole))
 
-  pub refused_join : (e : ParseErr) → Makes (Err e) (joined f x) → Settles (Err e) new goal
+  pub refused_join : (e : Stop) → Makes (Err e) (joined f x) → Settles (Err e) new goal
   refused_join Memory h = tt
-  refused_join (At n) h = absurd h
+  refused_join Outside h = absurd h
   refused_join Deep h =
       let more = operand_deeper p (joined f x) (reverse new) in
       let same_nesting : (settled p (joined f x) (reverse new)).0.nesting ≡ goal.0.nesting = λ i. (settles_on i).0.nesting in

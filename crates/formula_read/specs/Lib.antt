@@ -7,3 +7,4 @@ pub mod Nested
 pub mod FunctionNames
 pub mod Stack
 pub mod Steps
+pub mod Standing

@@ -9,6 +9,8 @@ use Rattle.formula_tree.specs.Tree.{Tree, pre, bin, call}
 use Rattle.formula_tree.proofs.Trees.{trees_from}
 use Rattle.formula_read.specs.declared.kinds.ParseErr.{ParseErr}
 use Rattle.formula_read.specs.declared.kinds.ParseErr.TheVariants.{At, Deep, Memory}
+use Rattle.formula_read.specs.declared.stop.Stop.{Stop}
+use Rattle.formula_read.specs.declared.stop.Stop.TheVariants as stop
 
 -- an operand
 pub record Nested : Type 0 where
@@ -42,11 +44,11 @@ abbrev pub called : Fun → NestedList → Nested
 called fun args = record { tree = call fun (trees_from args.trees); nesting = suc args.nesting }
 
 -- this operand is made, unless its nesting is above 64 or memory is wanting
-abbrev pub Makes : Result Nested ParseErr → Nested → Type 0
+abbrev pub Makes : Result Nested Stop → Nested → Type 0
 Makes (Ok y) x = y ≡ x
-Makes (Err Deep) x = 64 < x.nesting
-Makes (Err Memory) x = Unit {0}
-Makes (Err (At p)) x = ⊥
+Makes (Err stop.Deep) x = 64 < x.nesting
+Makes (Err stop.Memory) x = Unit {0}
+Makes (Err stop.Outside) x = ⊥
 
 -- the tree and the nesting are the answer, where the nesting is at most 64
 abbrev pub ReadAs : Result (Tree Spot Span) ParseErr → Tree Spot Span → ℕ → Type 0

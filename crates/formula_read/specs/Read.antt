@@ -2,6 +2,7 @@
 use Rattle.std.specs.Prelude.{ℕ, ◌≤◌, List, length, take}
 use Rattle.formula_tree.specs.Tokens.{Token, numeral, text, fault, cell, range, name, sign, opening, closing, semicolon}
 use Rattle.formula_tree.specs.Lexing.{Lexeme, Lexes, IsTokenFront}
+use Rattle.formula_tree.specs.Grammar.{IsFront}
 use Rattle.formula_read.specs.declared.kinds.TokenKind.{TokenKind}
 use Rattle.formula_read.specs.declared.kinds.TokenKind.TheVariants as kind
 use Rattle.formula_read.specs.declared.kinds.Token.{Token as ReadToken}
@@ -31,3 +32,9 @@ pub record IsLongestFront (bs : List ℕ) (p : ℕ) : Type 0 where
   pub within : p ≤ length bs
   pub front : IsTokenFront (take p bs)
   pub longest : (q : ℕ) → q ≤ length bs → IsTokenFront (take q bs) → q ≤ p
+
+-- the length of the longest front of a text that some formula's text has, too
+pub record IsLongestFormulaFront (bs : List ℕ) (p : ℕ) : Type 0 where
+  pub within : p ≤ length bs
+  pub front : IsFront (take p bs)
+  pub longest : (q : ℕ) → q ≤ length bs → IsFront (take q bs) → q ≤ p

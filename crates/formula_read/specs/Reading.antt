@@ -87,3 +87,11 @@ abbrev pub read_text : Option (Place × Partial) → List ℕ → Option (Place 
 read_text None bs = None
 read_text (Some r) [] = Some r
 read_text (Some r) (b ∷ bs) = read_text (read_byte r.0 r.1 b) bs
+
+-- where the reader stands if the text ends here: behind the token at hand, if that is whole
+abbrev pub place_at_end : Place → Partial → Option Place
+place_at_end p s = if is_fresh s then Some p else place_after p (kind_at s None)
+
+abbrev pub ended : Option (Place × Partial) → Option Place
+ended None = None
+ended (Some r) = place_at_end r.0 r.1

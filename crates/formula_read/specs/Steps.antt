@@ -9,8 +9,8 @@ use Rattle.ss_base.specs.declared.types.Spot.{Spot}
 use Rattle.ss_base.specs.declared.types.Span.{Span}
 use Rattle.formula_read.specs.declared.kinds.TokenKind.{TokenKind}
 use Rattle.formula_read.specs.declared.kinds.Token.{Token as ReadToken}
-use Rattle.formula_read.specs.declared.kinds.ParseErr.{ParseErr}
-use Rattle.formula_read.specs.declared.kinds.ParseErr.TheVariants.{At, Deep, Memory}
+use Rattle.formula_read.specs.declared.stop.Stop.{Stop}
+use Rattle.formula_read.specs.declared.stop.Stop.TheVariants.{Outside, Deep, Memory}
 use Rattle.formula_read.specs.declared.stack.Frame.{Frame}
 use Rattle.formula_read.specs.declared.stack.Frame.TheVariants.{Sign, Left, Group, Call}
 use Rattle.formula_read.specs.declared.stack.Side.{Side}
@@ -50,38 +50,38 @@ abbrev pub state_nesting : State → ℕ
 state_nesting s = max (side_nesting s.side) (frames_nesting s.frames)
 
 -- the tree of a token, if it stands by itself
-abbrev pub MakesLeaf : Result Expr ParseErr → Option (Tree Spot Span) → Type 0
+abbrev pub MakesLeaf : Result Expr Stop → Option (Tree Spot Span) → Type 0
 MakesLeaf (Ok e) (Some t) = tree_of e ≡ t
 MakesLeaf (Ok e) None = ⊥
 MakesLeaf (Err Deep) o = ⊥
 MakesLeaf (Err Memory) o = Unit {0}
-MakesLeaf (Err (At p)) o = o ≡ None
+MakesLeaf (Err Outside) o = o ≡ None
 
 -- nothing that waits is joined with an operand that something which binds so tightly follows
 abbrev pub IsSettled : ℕ → List Frame → Type 0
 IsSettled p fs = (x : Nested) → settled p x fs ≡ (x, fs)
 
 -- an operand, and what still waits for it, the innermost last
-abbrev pub Settles : Result Nested ParseErr → List Frame → Nested × List Frame → Type 0
+abbrev pub Settles : Result Nested Stop → List Frame → Nested × List Frame → Type 0
 Settles (Ok y) gs s = (y ≡ s.0) × (reverse gs ≡ s.1)
 Settles (Err Deep) gs s = 64 < s.0.nesting
 Settles (Err Memory) gs s = Unit {0}
-Settles (Err (At p)) gs s = ⊥
+Settles (Err Outside) gs s = ⊥
 
 -- where the reader stands, and what waits, the innermost last
-abbrev pub Gives : Result Side ParseErr → List Frame → Option State → Type 0
+abbrev pub Gives : Result Side Stop → List Frame → Option State → Type 0
 Gives (Ok p) fs (Some s) = s ≡ record { side = p; frames = reverse fs }
 Gives (Ok p) fs None = ⊥
 Gives (Err Deep) fs (Some s) = 64 < state_nesting s
 Gives (Err Deep) fs None = Unit {0}
 Gives (Err Memory) fs o = Unit {0}
-Gives (Err (At p)) fs o = o ≡ None
+Gives (Err Outside) fs o = o ≡ None
 
 -- the operand of a whole text
-abbrev pub Answers : Result Nested ParseErr → Option Nested → Type 0
+abbrev pub Answers : Result Nested Stop → Option Nested → Type 0
 Answers (Ok y) (Some x) = y ≡ x
 Answers (Ok y) None = ⊥
 Answers (Err Deep) (Some x) = 64 < x.nesting
 Answers (Err Deep) None = Unit {0}
 Answers (Err Memory) o = Unit {0}
-Answers (Err (At p)) o = o ≡ None
+Answers (Err Outside) o = o ≡ None

@@ -6,14 +6,15 @@ ghost use Rattle.formula_tree.specs.Tokens.{Token, doubled, error_name, sign_tex
 ghost use Rattle.formula_read.specs.Stack.{leaf_of};
 ghost use Rattle.formula_read.specs.Steps.{IsToken, IsSpelled, MakesLeaf};
 
-use crate::kinds::{ParseErr, TokenKind};
+use crate::kinds::TokenKind;
+use crate::stop::Stop;
 use cell_addr::{read_cell, read_range};
 use formula_tree::{BinOp, Expr};
 use ss_base::{CalcErr, Memory, Txt};
 use std::alloc::Global;
 
 /// The expression of a token that stands by itself, by its kind and its bytes.
-pub fn leaf(alloc: Global, kind: TokenKind, bytes: &[u8]) -> Result<Expr, ParseErr>
+pub fn leaf(alloc: Global, kind: TokenKind, bytes: &[u8]) -> Result<Expr, Stop>
     requires { IsSpelled kind bytes.now }
     ensures { (t : Token) → IsToken t kind bytes.now → MakesLeaf result (leaf_of t) }
 {
@@ -26,13 +27,13 @@ pub fn leaf(alloc: Global, kind: TokenKind, bytes: &[u8]) -> Result<Expr, ParseE
         TokenKind::Error => Ok(Expr::Err(error(bytes))),
         TokenKind::Cell => match read_cell(bytes) {
             Some(cell) => Ok(Expr::Cell(cell)),
-            None => Err(ParseErr::At(0)),
+            None => Err(Stop::Outside),
         },
         TokenKind::Range => match read_range(bytes) {
             Some(range) => Ok(Expr::Range(range)),
-            None => Err(ParseErr::At(0)),
+            None => Err(Stop::Outside),
         },
-        _ => Err(ParseErr::At(0)),
+        _ => Err(Stop::Outside),
     }
 }
 

@@ -2,14 +2,19 @@
 //! front of one.
 #![tactic(auto)]
 
+mod brackets;
+mod front;
 mod kinds;
 mod laws;
 mod leaves;
 mod lexer;
 mod operand;
+mod parsing;
 mod partial;
+mod place;
 mod stack;
 mod steps;
+mod stop;
 #[cfg(test)]
 mod tests;
 mod tree;
@@ -17,3 +22,4 @@ mod tree;
 pub use kinds::{ParseErr, Token, TokenKind};
 pub use laws::{one_reading, text_fronts, token_fronts};
 pub use lexer::tokens;
+pub use parsing::parse;

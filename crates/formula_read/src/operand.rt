@@ -2,7 +2,7 @@ ghost use Rattle.std.specs.Prelude.{◌≡◌, ◌+◌, ◌<◌, ◌≤◌, IfOk
 ghost use Rattle.formula_tree.specs.Erase.{tree_of};
 ghost use Rattle.formula_read.specs.Nested.{leaf, signed, between, bracketed, no_arguments, with_argument, called, Makes};
 
-use crate::kinds::ParseErr;
+use crate::stop::Stop;
 use formula_tree::{BinOp, Expr, Fun, PreOp};
 use ss_base::{Memory, Seq};
 use std::alloc::Global;
@@ -43,7 +43,7 @@ impl Operand {
     }
 
     /// The operand behind a prefix sign.
-    pub fn signed(self, alloc: Global, op: PreOp) -> Result<Operand, ParseErr>
+    pub fn signed(self, alloc: Global, op: PreOp) -> Result<Operand, Stop>
         ensures { Makes result (signed op self) }
     {
         let Operand { expr, nesting } = self;
@@ -56,7 +56,7 @@ impl Operand {
     }
 
     /// An operator between this operand and a right one.
-    pub fn between(self, alloc: Global, op: BinOp, right: Operand) -> Result<Operand, ParseErr>
+    pub fn between(self, alloc: Global, op: BinOp, right: Operand) -> Result<Operand, Stop>
         ensures { Makes result (between op self right) }
     {
         let Operand { expr, nesting } = self;
@@ -70,7 +70,7 @@ impl Operand {
     }
 
     /// The operand in brackets, which leave no node. It takes no memory.
-    pub fn bracketed(self) -> Result<Operand, ParseErr>
+    pub fn bracketed(self) -> Result<Operand, Stop>
         ensures { Makes result (bracketed self) }
     {
         let Operand { expr, nesting } = self;
@@ -133,7 +133,7 @@ impl Arguments {
     }
 
     /// The call of a function with these arguments. It takes no memory.
-    pub fn called(self, fun: Fun) -> Result<Operand, ParseErr>
+    pub fn called(self, fun: Fun) -> Result<Operand, Stop>
         ensures { Makes result (called fun self) }
     {
         let Arguments { exprs, nesting } = self;
@@ -146,14 +146,14 @@ impl Arguments {
 }
 
 /// One more than a nesting, unless it gets above 64.
-fn deeper(nesting: u8) -> Result<u8, ParseErr>
+fn deeper(nesting: u8) -> Result<u8, Stop>
     ensures more { IfOk result (λ n. (n ≡ suc nesting) × (n ≤ 64)) }
-    ensures deep { IfErr result (λ e. (e ≡ ParseErr.Deep) × (64 ≤ nesting)) }
+    ensures deep { IfErr result (λ e. (e ≡ Stop.Deep) × (64 ≤ nesting)) }
 {
     if nesting < 64 {
         Ok(nesting + 1)
     } else {
-        Err(ParseErr::Deep)
+        Err(Stop::Deep)
     }
 }
 

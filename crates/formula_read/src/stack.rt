@@ -4,8 +4,8 @@ ghost use Rattle.formula_read.specs.Stack.{wanted, joined, settled, operator_beh
 ghost use Rattle.formula_read.specs.Steps.{Settles, Gives, Answers, IsSettled};
 ghost use Rattle.formula_tree.specs.Precedence.{precedence_of_operator};
 
-use crate::kinds::ParseErr;
 use crate::operand::{Arguments, Operand};
+use crate::stop::Stop;
 use formula_tree::{BinOp, Fun, PreOp};
 use ss_base::Seq;
 use std::alloc::Global;
@@ -48,7 +48,7 @@ impl Frame {
     }
 
     /// The operand with what waits for it; a bracket is closed behind it.
-    fn joined(self, alloc: Global, operand: Operand) -> Result<Operand, ParseErr>
+    fn joined(self, alloc: Global, operand: Operand) -> Result<Operand, Stop>
         ensures { Makes result (joined self operand) }
     {
         match self {
@@ -77,7 +77,7 @@ fn settle(
     frames: &mut Seq<Frame>,
     operand: Operand,
     precedence: u8,
-) -> Result<Operand, ParseErr>
+) -> Result<Operand, Stop>
     ensures { Settles result frames.new (settled precedence operand (reverse frames.old)) }
 {
     let mut operand = operand;
@@ -88,7 +88,7 @@ fn settle(
 }
 
 /// A prefix sign or an open bracket where an operand is wanted.
-pub fn wait(frames: &mut Seq<Frame>, frame: Frame) -> Result<Side, ParseErr>
+pub fn wait(frames: &mut Seq<Frame>, frame: Frame) -> Result<Side, Stop>
     ensures { Gives result frames.new (Some (record { side = Side.Wants; frames = frame ∷ reverse frames.old })) }
 {
     frames.push(frame)?;
@@ -101,7 +101,7 @@ pub fn operate(
     frames: &mut Seq<Frame>,
     operand: Operand,
     op: BinOp,
-) -> Result<Side, ParseErr>
+) -> Result<Side, Stop>
     ensures { Gives result frames.new (Some (operator_behind op (settled (precedence_of_operator op) operand (reverse frames.old)))) }
 {
     let left = settle(alloc, frames, operand, op.precedence())?;
@@ -110,18 +110,18 @@ pub fn operate(
 }
 
 /// A closing bracket behind an operand.
-pub fn close(alloc: Global, frames: &mut Seq<Frame>, operand: Operand) -> Result<Side, ParseErr>
+pub fn close(alloc: Global, frames: &mut Seq<Frame>, operand: Operand) -> Result<Side, Stop>
     ensures { Gives result frames.new (closed (settled 1 operand (reverse frames.old))) }
 {
     let operand = settle(alloc, frames, operand, 1)?;
     match frames.pop() {
         Some(frame) => Ok(Side::Has(frame.joined(alloc, operand)?)),
-        None => Err(ParseErr::At(0)),
+        None => Err(Stop::Outside),
     }
 }
 
 /// A semicolon behind an operand.
-pub fn part(alloc: Global, frames: &mut Seq<Frame>, operand: Operand) -> Result<Side, ParseErr>
+pub fn part(alloc: Global, frames: &mut Seq<Frame>, operand: Operand) -> Result<Side, Stop>
     ensures { Gives result frames.new (parted (settled 1 operand (reverse frames.old))) }
 {
     let operand = settle(alloc, frames, operand, 1)?;
@@ -131,31 +131,31 @@ pub fn part(alloc: Global, frames: &mut Seq<Frame>, operand: Operand) -> Result<
             frames.push(Frame::Call(fun, args))?;
             Ok(Side::Wants)
         }
-        _ => Err(ParseErr::At(0)),
+        _ => Err(Stop::Outside),
     }
 }
 
 /// A closing bracket where an operand is wanted.
-pub fn end_call(frames: &mut Seq<Frame>) -> Result<Side, ParseErr>
+pub fn end_call(frames: &mut Seq<Frame>) -> Result<Side, Stop>
     ensures { Gives result frames.new (ended_call (reverse frames.old)) }
 {
     match frames.pop() {
         Some(Frame::Call(fun, args)) => Ok(Side::Has(args.called(fun)?)),
-        _ => Err(ParseErr::At(0)),
+        _ => Err(Stop::Outside),
     }
 }
 
 /// The operand of the whole text at its end.
-pub fn finish(alloc: Global, frames: &mut Seq<Frame>, side: Side) -> Result<Operand, ParseErr>
+pub fn finish(alloc: Global, frames: &mut Seq<Frame>, side: Side) -> Result<Operand, Stop>
     ensures { Answers result (finished side (reverse frames.old)) }
 {
     let Side::Has(operand) = side else {
-        return Err(ParseErr::At(0));
+        return Err(Stop::Outside);
     };
     let operand = settle(alloc, frames, operand, 1)?;
     if frames.is_empty() {
         Ok(operand)
     } else {
-        Err(ParseErr::At(0))
+        Err(Stop::Outside)
     }
 }

@@ -3,10 +3,11 @@ ghost use Rattle.formula_tree.specs.Tokens.{Token};
 ghost use Rattle.formula_read.specs.Stack.{begun, opened, ended, stepped};
 ghost use Rattle.formula_read.specs.Steps.{IsToken, IsSpelled, Gives};
 
-use crate::kinds::{ParseErr, TokenKind};
+use crate::kinds::TokenKind;
 use crate::leaves::{leaf, operator};
 use crate::operand::{Arguments, Operand};
 use crate::stack::{Frame, Side, close, end_call, operate, part, wait};
+use crate::stop::Stop;
 use formula_tree::{BinOp, Fun, PreOp};
 use ss_base::Seq;
 use std::alloc::Global;
@@ -18,7 +19,7 @@ pub fn step(
     frames: &mut Seq<Frame>,
     kind: TokenKind,
     bytes: &[u8],
-) -> Result<Side, ParseErr>
+) -> Result<Side, Stop>
     requires { IsSpelled kind bytes.now }
     ensures { (t : Token) → IsToken t kind bytes.now →
         Gives result frames.new (stepped side (reverse frames.old) t) }
@@ -27,7 +28,7 @@ pub fn step(
         Side::Head => Ok(Side::Wants),
         Side::Wants => begin(alloc, frames, kind, bytes),
         Side::Named if kind == TokenKind::Open => Ok(Side::Wants),
-        Side::Named => Err(ParseErr::At(0)),
+        Side::Named => Err(Stop::Outside),
         Side::Has(operand) => end(alloc, operand, frames, kind, bytes),
     }
 }
@@ -38,7 +39,7 @@ fn begin(
     frames: &mut Seq<Frame>,
     kind: TokenKind,
     bytes: &[u8],
-) -> Result<Side, ParseErr>
+) -> Result<Side, Stop>
     requires { IsSpelled kind bytes.now }
     ensures { (t : Token) → IsToken t kind bytes.now →
         Gives result frames.new (begun (reverse frames.old) t) }
@@ -52,11 +53,11 @@ fn begin(
         TokenKind::Sign => match operator(bytes) {
             BinOp::Add => wait(frames, Frame::Sign(PreOp::Plus)),
             BinOp::Sub => wait(frames, Frame::Sign(PreOp::Minus)),
-            _ => Err(ParseErr::At(0)),
+            _ => Err(Stop::Outside),
         },
         TokenKind::Open => wait(frames, Frame::Group),
         TokenKind::Close => end_call(frames),
-        TokenKind::Semi => Err(ParseErr::At(0)),
+        TokenKind::Semi => Err(Stop::Outside),
         _ => {
             let expr = leaf(alloc, kind, bytes)?;
             Ok(Side::Has(Operand::leaf(expr)))
@@ -71,7 +72,7 @@ fn end(
     frames: &mut Seq<Frame>,
     kind: TokenKind,
     bytes: &[u8],
-) -> Result<Side, ParseErr>
+) -> Result<Side, Stop>
     requires { IsSpelled kind bytes.now }
     ensures { (t : Token) → IsToken t kind bytes.now →
         Gives result frames.new (ended operand (reverse frames.old) t) }
@@ -80,6 +81,6 @@ fn end(
         TokenKind::Sign => operate(alloc, frames, operand, operator(bytes)),
         TokenKind::Close => close(alloc, frames, operand),
         TokenKind::Semi => part(alloc, frames, operand),
-        _ => Err(ParseErr::At(0)),
+        _ => Err(Stop::Outside),
     }
 }

@@ -14,6 +14,7 @@ use crate::lexer::tokens;
 use crate::operand::Operand;
 use crate::stack::{Side, finish};
 use crate::steps::step;
+use crate::stop::Stop;
 use formula_tree::Formula;
 use ss_base::Seq;
 use std::alloc::Global;
@@ -26,12 +27,16 @@ pub fn tree(alloc: Global, text: &[u8]) -> Result<Formula, ParseErr>
     ensures { (t : Tree Spot Span) (n : ℕ) → Stands text.now t n → ReadAs result t n }
 {
     let tokens = tokens(alloc, text)?;
-    let operand = operand_of(alloc, text, tokens.as_slice())?;
-    Ok(Formula::new(operand.into_expr()))
+    match operand_of(alloc, text, tokens.as_slice()) {
+        Ok(operand) => Ok(Formula::new(operand.into_expr())),
+        Err(Stop::Deep) => Err(ParseErr::Deep),
+        Err(Stop::Memory) => Err(ParseErr::Memory),
+        Err(Stop::Outside) => unreachable!(),
+    }
 }
 
 /// The operand that the tokens form, behind the `=`.
-fn operand_of(alloc: Global, text: &[u8], tokens: &[Token]) -> Result<Operand, ParseErr>
+fn operand_of(alloc: Global, text: &[u8], tokens: &[Token]) -> Result<Operand, Stop>
     requires { (ls : List Lexeme) × AreTokens ls text.now tokens.now }
     ensures { (ls : List Lexeme) → AreTokens ls text.now tokens.now →
         Answers result (finished_at (walked (Some start) (tokens_of ls))) }
