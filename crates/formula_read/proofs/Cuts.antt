@@ -39,7 +39,7 @@ apart : {at : ℕ} {bs : List ℕ} {ls : List Lexeme} → Lexes at bs ls → (bs
 apart cut.end = inl refl
 apart (cut.next {piece = piece} {behind = behind} {t = t} {ls = ls} n more) = inr (piece, behind, t, ls, refl, n, more)
 
-one_next : (p : List ℕ) (t : Token) (r q : List ℕ) (u : Token) (s : List ℕ) → IsNext p t r → IsNext q u s → p ++ r ≡ q ++ s → (p ≡ q) × (r ≡ s)
+pub one_next : (p : List ℕ) (t : Token) (r q : List ℕ) (u : Token) (s : List ℕ) → IsNext p t r → IsNext q u s → p ++ r ≡ q ++ s → (p ≡ q) × (r ≡ s)
 one_next p t r q u s n m e =
     let longer = n.longest q u s (sym e) m.fits in
     let shorter = m.longest p t r e n.fits in

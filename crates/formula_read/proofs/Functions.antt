@@ -15,18 +15,16 @@ use Rattle.formula_tree.specs.Lexing.{Lexeme, Lexes}
 use Rattle.formula_tree.specs.Lexing as cut
 use Rattle.formula_tree.specs.declared.operators.BinOp.TheVariants.{Eq}
 use Rattle.formula_tree.specs.Grammar.{Derives}
+use Rattle.formula_read.specs.FunctionNames.{known_functions}
 use Rattle.formula_read.specs.Places.{IsProper, AreProper, IsFormula, tokens_of, IsFormulaText, IsReadToEnd}
 use Rattle.formula_read.proofs.Syntax.{formula_read, read_is_formula}
 use Rattle.formula_read.proofs.Choices.{all_parts}
 
-abbrev IsIn : Fun → List Fun → Type 0
+abbrev pub IsIn : Fun → List Fun → Type 0
 IsIn f [] = ⊥
 IsIn f (g ∷ gs) = (f ≡ g) ⊎ IsIn f gs
 
-abbrev all_functions : List Fun
-all_functions = fun.Sum ∷ fun.Count ∷ fun.Counta ∷ fun.Min ∷ fun.Max ∷ fun.And ∷ fun.Or ∷ fun.Abs ∷ fun.Sign ∷ fun.Mod ∷ fun.Quotient ∷ fun.If ∷ fun.Not ∷ fun.Iferror ∷ fun.Iserror ∷ fun.Isna ∷ fun.Isblank ∷ fun.Isnumber ∷ fun.Istext ∷ fun.Na ∷ fun.True ∷ fun.False ∷ fun.Len ∷ fun.Left ∷ fun.Right ∷ fun.Mid ∷ fun.Concatenate ∷ fun.Exact ∷ fun.Choose ∷ fun.Index ∷ fun.Match ∷ fun.Vlookup ∷ fun.Countif ∷ fun.Sumif ∷ fun.Sumproduct ∷ fun.Rows ∷ fun.Columns ∷ []
-
-in_all : (f : Fun) → is_known f ≡ true → IsIn f all_functions
+in_all : (f : Fun) → is_known f ≡ true → IsIn f known_functions
 in_all fun.Sum h = inl refl
 in_all fun.Count h = inr (inl refl)
 in_all fun.Counta h = inr (inr (inl refl))
@@ -97,16 +95,16 @@ search_name (g ∷ gs) n = by_name (same_bytes (name_of g) n) (search_name gs n)
         by_place f (inr h) same = none f h same
 
 -- each of the functions is known
-abbrev AreKnown : List Fun → Type 0
+abbrev pub AreKnown : List Fun → Type 0
 AreKnown [] = Unit {0}
 AreKnown (f ∷ fs) = (is_known f ≡ true) × AreKnown fs
 
-known_in : (fs : List Fun) (f : Fun) → AreKnown fs → IsIn f fs → is_known f ≡ true
+pub known_in : (fs : List Fun) (f : Fun) → AreKnown fs → IsIn f fs → is_known f ≡ true
 known_in [] f k h = absurd h
 known_in (g ∷ gs) f k (inl e) = ap is_known e ∙ k.0
 known_in (g ∷ gs) f k (inr h) = known_in gs f k.1 h
 
-all_known : AreKnown all_functions
+pub all_known : AreKnown known_functions
 all_known = (refl, (refl, (refl, (refl, (refl, (refl, (refl, (refl, (refl, (refl, (refl, (refl, (refl, (refl, (refl, (refl, (refl, (refl, (refl, (refl, (refl, (refl, (refl, (refl, (refl, (refl, (refl, (refl, (refl, (refl, (refl, (refl, (refl, (refl, (refl, (refl, (refl, tt)))))))))))))))))))))))))))))))))))))
 
 -- upper case
@@ -139,11 +137,11 @@ upper_name (b ∷ bs) h =
     and_from _ _ (upper_letter b letter) (and_from _ _ (upper_bytes bs all) (ap (λ (n : ℕ). nat_le n 31) (length-upper bs) ∙ few))
 
 pub name_is_function : (bs : List ℕ) → is_name bs ≡ true → (f : Fun) × IsFun f × (name_of f ≡ upper_case bs)
-name_is_function bs h = by_search (search_name all_functions (upper_case bs))
+name_is_function bs h = by_search (search_name known_functions (upper_case bs))
   where
-    by_search : (((f : Fun) × IsIn f all_functions × (name_of f ≡ upper_case bs)) ⊎ ((f : Fun) → IsIn f all_functions → name_of f ≢ upper_case bs)) →
+    by_search : (((f : Fun) × IsIn f known_functions × (name_of f ≡ upper_case bs)) ⊎ ((f : Fun) → IsIn f known_functions → name_of f ≢ upper_case bs)) →
         (f : Fun) × IsFun f × (name_of f ≡ upper_case bs)
-    by_search (inl (f, place, e)) = (f, known_fun f (known_in all_functions f all_known place), e)
+    by_search (inl (f, place, e)) = (f, known_fun f (known_in known_functions f all_known place), e)
     by_search (inr none) = (fun.Unknown (upper_case bs), (upper_name bs h, upper_twice bs, λ f known. none f (in_all f known)), refl)
 
 -- tokens of a text are proper

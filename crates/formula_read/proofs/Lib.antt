@@ -13,5 +13,14 @@ pub mod Syntax
 pub mod Functions
 pub mod Bytes
 pub mod Fronts
+pub mod NamedFunctions
+pub mod Derived
+pub mod Values
+pub mod Spellings
+pub mod Formed
+pub mod Nestings
+pub mod Pieces
+pub mod Turns
+pub mod Answered
 pub mod Stops
 pub mod Readings

@@ -87,7 +87,7 @@ front_is_read ts (rest, f) e =
 abbrev IsOperand : List Token → Type 0
 IsOperand ts = (t : Tree Spot Span) × (n : ℕ) × Derives 6 ts t n
 
-most_precedence : (op : BinOp) → precedence_of_operator op ≤ 5
+pub most_precedence : (op : BinOp) → precedence_of_operator op ≤ 5
 most_precedence Pow = omega arith
 most_precedence Mul = omega arith
 most_precedence Div = omega arith
@@ -101,7 +101,7 @@ most_precedence Le = omega arith
 most_precedence Gt = omega arith
 most_precedence Ge = omega arith
 
-least_precedence : (op : BinOp) → 1 ≤ precedence_of_operator op
+pub least_precedence : (op : BinOp) → 1 ≤ precedence_of_operator op
 least_precedence Pow = omega arith
 least_precedence Mul = omega arith
 least_precedence Div = omega arith

@@ -3,5 +3,9 @@ pub mod Longest
 pub mod Read
 pub mod Places
 pub mod Reading
+pub mod Nested
+pub mod FunctionNames
+pub mod Stack
+pub mod Steps
 pub mod Standing
 pub mod Readings

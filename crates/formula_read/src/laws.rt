@@ -1,7 +1,10 @@
 ghost use Rattle.std.specs.Prelude.{◌≡◌, ◌≢◌, ◌↔◌, ℕ, List, [], Some, None};
 ghost use Rattle.formula_tree.specs.Tokens.{Token};
 ghost use Rattle.formula_tree.specs.Lexing.{Lexeme, Lexes};
-ghost use Rattle.formula_tree.specs.Grammar.{IsFront};
+ghost use Rattle.ss_base.specs.declared.types.Spot.{Spot};
+ghost use Rattle.ss_base.specs.declared.types.Span.{Span};
+ghost use Rattle.formula_tree.specs.Tree.{Tree};
+ghost use Rattle.formula_tree.specs.Grammar.{IsFront, Stands};
 ghost use Rattle.formula_read.specs.Reading.{read_text};
 ghost use Rattle.formula_read.specs.declared.partial.Partial.TheVariants.{Fresh};
 ghost use Rattle.formula_read.specs.Places.{head, has, advance_all, tokens_of, AreProper, IsFormula, IsFormulaFront, IsFormulaText, IsReadToEnd};
@@ -21,4 +24,9 @@ pub fn token_fronts()
 /// bytes as it reads before it stands nowhere.
 pub fn text_fronts()
     ensures { (bs : List ℕ) → (IsFront bs ↔ (read_text (Some (head, Fresh)) bs ≢ None)) }
+{}
+
+/// A text is one formula's at most, and has one nesting.
+pub fn one_reading()
+    ensures { (bs : List ℕ) (t u : Tree Spot Span) (n m : ℕ) → Stands bs t n → Stands bs u m → (t ≡ u) × (n ≡ m) }
 {}

@@ -6,12 +6,20 @@ mod brackets;
 mod front;
 mod kinds;
 mod laws;
+mod leaves;
 mod lexer;
+mod operand;
+mod parsing;
 mod partial;
 mod place;
+mod stack;
+mod steps;
+mod stop;
 #[cfg(test)]
 mod tests;
+mod tree;
 
 pub use kinds::{ParseErr, Token, TokenKind};
-pub use laws::{text_fronts, token_fronts};
+pub use laws::{one_reading, text_fronts, token_fronts};
 pub use lexer::tokens;
+pub use parsing::parse;

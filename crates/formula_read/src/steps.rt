@@ -1,0 +1,86 @@
+ghost use Rattle.std.specs.Prelude.{reverse};
+ghost use Rattle.formula_tree.specs.Tokens.{Token};
+ghost use Rattle.formula_read.specs.Stack.{begun, opened, ended, stepped};
+ghost use Rattle.formula_read.specs.Steps.{IsToken, IsSpelled, Gives};
+
+use crate::kinds::TokenKind;
+use crate::leaves::{leaf, operator};
+use crate::operand::{Arguments, Operand};
+use crate::stack::{Frame, Side, close, end_call, operate, part, wait};
+use crate::stop::Stop;
+use formula_tree::{BinOp, Fun, PreOp};
+use ss_base::Seq;
+use std::alloc::Global;
+
+/// One more token, by its kind and its bytes. It takes memory for what waits and for what is made.
+pub fn step(
+    alloc: Global,
+    side: Side,
+    frames: &mut Seq<Frame>,
+    kind: TokenKind,
+    bytes: &[u8],
+) -> Result<Side, Stop>
+    requires { IsSpelled kind bytes.now }
+    ensures { (t : Token) → IsToken t kind bytes.now →
+        Gives result frames.new (stepped side (reverse frames.old) t) }
+{
+    match side {
+        Side::Head => Ok(Side::Wants),
+        Side::Wants => begin(alloc, frames, kind, bytes),
+        Side::Named if kind == TokenKind::Open => Ok(Side::Wants),
+        Side::Named => Err(Stop::Outside),
+        Side::Has(operand) => end(alloc, operand, frames, kind, bytes),
+    }
+}
+
+/// One more token where an operand is wanted.
+fn begin(
+    alloc: Global,
+    frames: &mut Seq<Frame>,
+    kind: TokenKind,
+    bytes: &[u8],
+) -> Result<Side, Stop>
+    requires { IsSpelled kind bytes.now }
+    ensures { (t : Token) → IsToken t kind bytes.now →
+        Gives result frames.new (begun (reverse frames.old) t) }
+{
+    match kind {
+        TokenKind::Name => {
+            let fun = Fun::named(alloc, bytes)?;
+            frames.push(Frame::Call(fun, Arguments::none(alloc)))?;
+            Ok(Side::Named)
+        }
+        TokenKind::Sign => match operator(bytes) {
+            BinOp::Add => wait(frames, Frame::Sign(PreOp::Plus)),
+            BinOp::Sub => wait(frames, Frame::Sign(PreOp::Minus)),
+            _ => Err(Stop::Outside),
+        },
+        TokenKind::Open => wait(frames, Frame::Group),
+        TokenKind::Close => end_call(frames),
+        TokenKind::Semi => Err(Stop::Outside),
+        _ => {
+            let expr = leaf(alloc, kind, bytes)?;
+            Ok(Side::Has(Operand::leaf(expr)))
+        }
+    }
+}
+
+/// One more token behind an operand.
+fn end(
+    alloc: Global,
+    operand: Operand,
+    frames: &mut Seq<Frame>,
+    kind: TokenKind,
+    bytes: &[u8],
+) -> Result<Side, Stop>
+    requires { IsSpelled kind bytes.now }
+    ensures { (t : Token) → IsToken t kind bytes.now →
+        Gives result frames.new (ended operand (reverse frames.old) t) }
+{
+    match kind {
+        TokenKind::Sign => operate(alloc, frames, operand, operator(bytes)),
+        TokenKind::Close => close(alloc, frames, operand),
+        TokenKind::Semi => part(alloc, frames, operand),
+        _ => Err(Stop::Outside),
+    }
+}
