@@ -3,9 +3,11 @@
 
 mod edits;
 mod entries;
+mod laws;
 mod numbers;
 
 pub use edits::{clear, set};
+pub use laws::readings;
 
 #[cfg(test)]
 mod tests;
