@@ -1,8 +1,10 @@
-ghost use Rattle.std.specs.Prelude.{◌≡◌, ◌≢◌, ◌↔◌, ℕ, List, [], Some, None};
-ghost use Rattle.formula_tree.specs.Tokens.{Token};
+ghost use Rattle.std.specs.Prelude.{◌≡◌, ◌≢◌, ◌↔◌, ℕ, false, List, [], Some, None};
+ghost use Rattle.formula_tree.specs.Tokens.{Token, Fits, IsNext};
 ghost use Rattle.formula_tree.specs.Lexing.{Lexeme, Lexes};
 ghost use Rattle.formula_tree.specs.Grammar.{IsFront};
 ghost use Rattle.formula_read.specs.Reading.{read_text};
+ghost use Rattle.formula_read.specs.Read.{kind_of};
+ghost use Rattle.formula_read.specs.Behind.{goes_on};
 ghost use Rattle.formula_read.specs.declared.partial.Partial.TheVariants.{Fresh};
 ghost use Rattle.formula_read.specs.Places.{head, has, advance_all, tokens_of, AreProper, IsFormula, IsFormulaFront, IsFormulaText, IsReadToEnd};
 
@@ -21,4 +23,10 @@ pub fn token_fronts()
 /// bytes as it reads before it stands nowhere.
 pub fn text_fronts()
     ensures { (bs : List ℕ) → (IsFront bs ↔ (read_text (Some (head, Fresh)) bs ≢ None)) }
+{}
+
+/// A token that fits at the front of a text is the next one, where the byte behind it is none that it
+/// may go on with.
+pub fn next_tokens()
+    ensures { (piece : List ℕ) (t : Token) (rest : List ℕ) → Fits piece t rest → goes_on (kind_of t) rest ≡ false → IsNext piece t rest }
 {}

@@ -10,5 +10,5 @@ mod partial;
 mod tests;
 
 pub use kinds::{ParseErr, Token, TokenKind};
-pub use laws::{text_fronts, token_fronts};
+pub use laws::{next_tokens, text_fronts, token_fronts};
 pub use lexer::tokens;
