@@ -7,6 +7,7 @@ pub mod States
 pub mod Forms
 pub mod Splits
 pub mod Next
+pub mod Parted
 pub mod Cuts
 pub mod Walk
 pub mod Syntax

@@ -1,11 +1,13 @@
-ghost use Rattle.std.specs.Prelude.{◌≡◌, ◌≢◌, ◌↔◌, ℕ, List, [], Some, None};
-ghost use Rattle.formula_tree.specs.Tokens.{Token};
+ghost use Rattle.std.specs.Prelude.{◌≡◌, ◌≢◌, ◌↔◌, ℕ, false, List, [], Some, None};
+ghost use Rattle.formula_tree.specs.Tokens.{Token, Fits, IsNext};
 ghost use Rattle.formula_tree.specs.Lexing.{Lexeme, Lexes};
 ghost use Rattle.ss_base.specs.declared.types.Spot.{Spot};
 ghost use Rattle.ss_base.specs.declared.types.Span.{Span};
 ghost use Rattle.formula_tree.specs.Tree.{Tree};
 ghost use Rattle.formula_tree.specs.Grammar.{IsFront, Stands};
 ghost use Rattle.formula_read.specs.Reading.{read_text};
+ghost use Rattle.formula_read.specs.Read.{kind_of};
+ghost use Rattle.formula_read.specs.Behind.{goes_on};
 ghost use Rattle.formula_read.specs.declared.partial.Partial.TheVariants.{Fresh};
 ghost use Rattle.formula_read.specs.Places.{head, has, advance_all, tokens_of, AreProper, IsFormula, IsFormulaFront, IsFormulaText, IsReadToEnd};
 
@@ -29,4 +31,9 @@ pub fn text_fronts()
 /// A text is one formula's at most, and has one nesting.
 pub fn one_reading()
     ensures { (bs : List ℕ) (t u : Tree Spot Span) (n m : ℕ) → Stands bs t n → Stands bs u m → (t ≡ u) × (n ≡ m) }
+
+/// A token that fits at the front of a text is the next one, where the byte behind it is none that it
+/// may go on with.
+pub fn next_tokens()
+    ensures { (piece : List ℕ) (t : Token) (rest : List ℕ) → Fits piece t rest → goes_on (kind_of t) rest ≡ false → IsNext piece t rest }
 {}

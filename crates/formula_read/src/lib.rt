@@ -20,6 +20,6 @@ mod tests;
 mod tree;
 
 pub use kinds::{ParseErr, Token, TokenKind};
-pub use laws::{one_reading, text_fronts, token_fronts};
+pub use laws::{next_tokens, one_reading, text_fronts, token_fronts};
 pub use lexer::tokens;
 pub use parsing::parse;
