@@ -31,6 +31,7 @@ pub fn text_fronts()
 /// A text is one formula's at most, and has one nesting.
 pub fn one_reading()
     ensures { (bs : List ℕ) (t u : Tree Spot Span) (n m : ℕ) → Stands bs t n → Stands bs u m → (t ≡ u) × (n ≡ m) }
+{}
 
 /// A token that fits at the front of a text is the next one, where the byte behind it is none that it
 /// may go on with.
