@@ -1,5 +1,5 @@
 -- Every text reads as something.
-use Rattle.std.proofs.Common.{◌≡◌, ◌≢◌, ℕ, zero, suc, ◌+◌, ◌<◌, ◌≤◌, List, [], ◌∷◌, length, get_or, Option, Some, None, refl, arith}
+use Rattle.std.proofs.Common.{◌≡◌, ℕ, zero, suc, ◌+◌, ◌≤◌, List, [], ◌∷◌, length, get_or, Option, Some, None, refl, arith}
 use Rattle.formula_read.specs.declared.partial.Partial.{Partial}
 use Rattle.formula_read.specs.declared.partial.Partial.TheVariants.{Fresh}
 use Rattle.formula_read.specs.Places.{Place, head, wants, has, named, begins}
