@@ -16,18 +16,11 @@ use Rattle.formula_tree.specs.Grammar as grammar
 use Rattle.formula_tree.proofs.Trees.{trees_from}
 use Rattle.formula_read.specs.declared.stack.Frame.{Frame}
 use Rattle.formula_read.specs.declared.stack.Frame.TheVariants.{Sign, Left, Group, Call}
-use Rattle.formula_read.specs.declared.stack.Side.TheVariants.{Wants, Has}
 use Rattle.formula_read.specs.Nested.{Nested, NestedList, no_arguments, with_argument}
-use Rattle.formula_read.specs.Stack.{State, start, wanted, joined, settled, operator_behind, closed, parted, stepped, walked, alone, finished_at}
+use Rattle.formula_read.specs.Stack.{State, start, waiting, standing, wanted, joined, settled, operator_behind, closed, parted, stepped, walked, alone, finished_at}
 use Rattle.formula_read.proofs.Choices.{same}
 use Rattle.formula_read.proofs.Syntax.{most_precedence}
 use Rattle.formula_read.proofs.NamedFunctions.{function_named-name_of}
-
-abbrev wants : List Frame → State
-wants fs = record { side = Wants; frames = fs }
-
-abbrev has : Nested → List Frame → State
-has x fs = record { side = Has x; frames = fs }
 
 abbrev nested : Tree Spot Span → ℕ → Nested
 nested t n = record { tree = t; nesting = n }
@@ -57,33 +50,33 @@ goes p x f fs h = ap (λ (t : Bool). cond t (settled p (joined f x) fs) (x, f �
 record IsRead (p : ℕ) (fs : List Frame) (ts : List Token) (x : Nested) : Type 0 where
   operand : Nested
   waits : List Frame
-  walks : walked (Some (wants fs)) ts ≡ Some (has operand waits)
+  walks : walked (Some (waiting fs)) ts ≡ Some (standing operand waits)
   agrees : (q : ℕ) → q ≤ p → q ≤ 5 → settled q operand waits ≡ settled q x fs
 
-by_itself : (p : ℕ) (fs : List Frame) (ts : List Token) (x : Nested) → walked (Some (wants fs)) ts ≡ Some (has x fs) → IsRead p fs ts x
+by_itself : (p : ℕ) (fs : List Frame) (ts : List Token) (x : Nested) → walked (Some (waiting fs)) ts ≡ Some (standing x fs) → IsRead p fs ts x
 by_itself p fs ts x h = record { operand = x; waits = fs; walks = h; agrees = λ q _ _. refl }
 
 -- behind tokens that were read
 behind_read : {p : ℕ} {fs : List Frame} {ts : List Token} {x : Nested} → IsRead p fs ts x → (us : List Token) → (y : Nested) × (gs : List Frame) ×
-    (walked (Some (wants fs)) (ts ++ us) ≡ walked (Some (has y gs)) us) × ((q : ℕ) → q ≤ p → q ≤ 5 → settled q y gs ≡ settled q x fs)
-behind_read {p} {fs} {ts} {x} r us = (r.operand, r.waits, walked-append (Some (wants fs)) ts us ∙ ap (λ (o : Option State). walked o us) r.walks, r.agrees)
+    (walked (Some (waiting fs)) (ts ++ us) ≡ walked (Some (standing y gs)) us) × ((q : ℕ) → q ≤ p → q ≤ 5 → settled q y gs ≡ settled q x fs)
+behind_read {p} {fs} {ts} {x} r us = (r.operand, r.waits, walked-append (Some (waiting fs)) ts us ∙ ap (λ (o : Option State). walked o us) r.walks, r.agrees)
 
 module _ (fs : List Frame) (ts us : List Token) (x : Nested) where
   operator_read : (p : ℕ) (op : BinOp) → precedence_of_operator op ≤ p → wanted_behind fs ≤ precedence_of_operator op → IsRead p fs ts x →
-      walked (Some (wants fs)) (ts ++ sign op ∷ us) ≡ walked (Some (wants (Left x op ∷ fs))) us
+      walked (Some (waiting fs)) (ts ++ sign op ∷ us) ≡ walked (Some (waiting (Left x op ∷ fs))) us
   operator_read p op tight low r =
       let (y, gs, walks, agrees) = behind_read r (sign op ∷ us) in
       walks ∙ ap (λ (z : Nested × List Frame). walked (Some (operator_behind op z)) us)
       (agrees (precedence_of_operator op) tight (most_precedence op) ∙ stays (precedence_of_operator op) x fs low)
 
   closing_read : (f : Frame) → wanted f ≡ 1 → IsRead 1 (f ∷ fs) ts x →
-      walked (Some (wants (f ∷ fs))) (ts ++ closing ∷ us) ≡ walked (Some (has (joined f x) fs)) us
+      walked (Some (waiting (f ∷ fs))) (ts ++ closing ∷ us) ≡ walked (Some (standing (joined f x) fs)) us
   closing_read f w r =
       let (y, gs, walks, agrees) = behind_read r (closing ∷ us) in
       walks ∙ ap (λ (z : Nested × List Frame). walked (closed z) us) (agrees 1 (omega arith) (omega arith) ∙ stays 1 x (f ∷ fs) (omega arith))
 
   semicolon_read : (fun : Fun) (args : NestedList) → IsRead 1 (Call fun args ∷ fs) ts x →
-      walked (Some (wants (Call fun args ∷ fs))) (ts ++ semicolon ∷ us) ≡ walked (Some (wants (Call fun (with_argument args x) ∷ fs))) us
+      walked (Some (waiting (Call fun args ∷ fs))) (ts ++ semicolon ∷ us) ≡ walked (Some (waiting (Call fun (with_argument args x) ∷ fs))) us
   semicolon_read fun args r =
       let (y, gs, walks, agrees) = behind_read r (semicolon ∷ us) in
       walks ∙ ap (λ (z : Nested × List Frame). walked (parted z) us) (agrees 1 (omega arith) (omega arith) ∙ stays 1 x (Call fun args ∷ fs) (omega arith))
@@ -150,24 +143,24 @@ mutual
       by_itself _ fs _ _ (closing_read fs ts [] (nested t n) Group refl (derives_walked d (Group ∷ fs) (omega arith)))
   derives_walked (grammar.call {n = n} {fun = fun} {ts = ts} {args = args} f a) fs low =
       by_itself _ fs _ _
-      (ap (λ (g : Fun). walked (Some (wants (Call g no_arguments ∷ fs))) (ts ++ closing ∷ [])) (function_named-name_of fun f) ∙ arguments_walked a fun fs)
+      (ap (λ (g : Fun). walked (Some (waiting (Call g no_arguments ∷ fs))) (ts ++ closing ∷ [])) (function_named-name_of fun f) ∙ arguments_walked a fun fs)
 
   arguments_walked : {n : ℕ} {ts : List Token} {args : Trees Spot Span} → Arguments ts args n → (fun : Fun) (fs : List Frame) →
-      walked (Some (wants (Call fun no_arguments ∷ fs))) (ts ++ closing ∷ []) ≡ Some (has (nested (tree.call fun args) (suc n)) fs)
+      walked (Some (waiting (Call fun no_arguments ∷ fs))) (ts ++ closing ∷ []) ≡ Some (standing (nested (tree.call fun args) (suc n)) fs)
   arguments_walked grammar.empty fun fs = refl
   arguments_walked (grammar.some {n = n} {args = args} l) fun fs =
-      listed_walked l fun no_arguments fs ∙ (λ i. Some (has (nested (tree.call fun args) (suc (none_more n i))) fs))
+      listed_walked l fun no_arguments fs ∙ (λ i. Some (standing (nested (tree.call fun args) (suc (none_more n i))) fs))
 
   listed_walked : {n : ℕ} {ts : List Token} {args : Trees Spot Span} → Listed ts args n → (fun : Fun) (done : NestedList) (fs : List Frame) →
-      walked (Some (wants (Call fun done ∷ fs))) (ts ++ closing ∷ []) ≡ Some (has (called_with fun done args n) fs)
+      walked (Some (waiting (Call fun done ∷ fs))) (ts ++ closing ∷ []) ≡ Some (standing (called_with fun done args n) fs)
   listed_walked (grammar.last {n = n} {ts = ts} {t = t} d) fun done fs =
       closing_read fs ts [] (nested t n) (Call fun done) refl (derives_walked d (Call fun done ∷ fs) (omega arith))
-      ∙ (λ i. Some (has (nested (tree.call fun (listed-last done.trees t i)) (suc (max done.nesting n))) fs))
+      ∙ (λ i. Some (standing (nested (tree.call fun (listed-last done.trees t i)) (suc (max done.nesting n))) fs))
   listed_walked (grammar.more {m = m} {n = n} {ts = ts} {us = us} {t = t} {args = args} d l) fun done fs =
-      ap (walked (Some (wants (Call fun done ∷ fs)))) (append_assoc ts (semicolon ∷ us) (closing ∷ []))
+      ap (walked (Some (waiting (Call fun done ∷ fs)))) (append_assoc ts (semicolon ∷ us) (closing ∷ []))
       ∙ (semicolon_read fs ts (us ++ closing ∷ []) (nested t m) fun done (derives_walked d (Call fun done ∷ fs) (omega arith))
       ∙ (listed_walked l fun (with_argument done (nested t m)) fs
-      ∙ (λ i. Some (has (nested (tree.call fun (listed-more done.trees t args i)) (suc (more_nested done.nesting m n i))) fs))))
+      ∙ (λ i. Some (standing (nested (tree.call fun (listed-more done.trees t args i)) (suc (more_nested done.nesting m n i))) fs))))
 
 -- an expression's tokens behind a formula's `=`
 pub expression_walked : (head : Token) (ts : List Token) (t : Tree Spot Span) (n : ℕ) → Derives 1 ts t n →

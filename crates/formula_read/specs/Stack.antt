@@ -24,6 +24,14 @@ pub record State : Type 0 where
 abbrev pub start : State
 start = record { side = Head; frames = [] }
 
+-- an operand is wanted
+abbrev pub waiting : List Frame → State
+waiting fs = record { side = Wants; frames = fs }
+
+-- an operand was read
+abbrev pub standing : Nested → List Frame → State
+standing x fs = record { side = Has x; frames = fs }
+
 -- how tightly an operand has to bind behind what waits
 abbrev pub wanted : Frame → ℕ
 wanted (Sign op) = 6
@@ -38,28 +46,29 @@ joined (Left y op) x = between op y x
 joined Group x = bracketed x
 joined (Call fun args) x = called fun (with_argument args x)
 
--- an operand where something that binds so tightly may follow: with all that it can't belong to, and what still waits
+-- an operand where something that binds so tightly may follow: joined with all that binds it more tightly, and what
+-- still waits
 abbrev pub settled : ℕ → Nested → List Frame → Nested × List Frame
 settled p x [] = (x, [])
 settled p x (f ∷ fs) = if nat_lt p (wanted f) then settled p (joined f x) fs else (x, f ∷ fs)
 
 -- a binary operator behind an operand
 abbrev pub operator_behind : BinOp → Nested × List Frame → State
-operator_behind op (x, fs) = record { side = Wants; frames = Left x op ∷ fs }
+operator_behind op (x, fs) = waiting (Left x op ∷ fs)
 
 -- a closing bracket behind an operand
 abbrev pub closed : Nested × List Frame → Option State
 closed (x, []) = None
-closed (x, f ∷ fs) = Some (record { side = Has (joined f x); frames = fs })
+closed (x, f ∷ fs) = Some (standing (joined f x) fs)
 
 -- a semicolon behind an operand
 abbrev pub parted : Nested × List Frame → Option State
-parted (x, Call fun args ∷ fs) = Some (record { side = Wants; frames = Call fun (with_argument args x) ∷ fs })
+parted (x, Call fun args ∷ fs) = Some (waiting (Call fun (with_argument args x) ∷ fs))
 parted (x, fs) = None
 
 -- a closing bracket where an operand is wanted
 abbrev pub ended_call : List Frame → Option State
-ended_call (Call fun args ∷ fs) = Some (record { side = Has (called fun args); frames = fs })
+ended_call (Call fun args ∷ fs) = Some (standing (called fun args) fs)
 ended_call fs = None
 
 -- the tree of a token that stands by itself
@@ -73,21 +82,21 @@ leaf_of t = None
 
 -- one more token where an operand is wanted
 abbrev pub begun : List Frame → Token → Option State
-begun fs (numeral n) = Some (record { side = Has (leaf (tree.num (pos n))); frames = fs })
-begun fs (text t) = Some (record { side = Has (leaf (tree.text t)); frames = fs })
-begun fs (fault e) = Some (record { side = Has (leaf (tree.fault e)); frames = fs })
-begun fs (cell c) = Some (record { side = Has (leaf (tree.cell c)); frames = fs })
-begun fs (range r) = Some (record { side = Has (leaf (tree.range r)); frames = fs })
+begun fs (numeral n) = Some (standing (leaf (tree.num (pos n))) fs)
+begun fs (text t) = Some (standing (leaf (tree.text t)) fs)
+begun fs (fault e) = Some (standing (leaf (tree.fault e)) fs)
+begun fs (cell c) = Some (standing (leaf (tree.cell c)) fs)
+begun fs (range r) = Some (standing (leaf (tree.range r)) fs)
 begun fs (name n) = Some (record { side = Named; frames = Call (function_named n) no_arguments ∷ fs })
-begun fs (sign Add) = Some (record { side = Wants; frames = Sign Plus ∷ fs })
-begun fs (sign Sub) = Some (record { side = Wants; frames = Sign Minus ∷ fs })
-begun fs opening = Some (record { side = Wants; frames = Group ∷ fs })
+begun fs (sign Add) = Some (waiting (Sign Plus ∷ fs))
+begun fs (sign Sub) = Some (waiting (Sign Minus ∷ fs))
+begun fs opening = Some (waiting (Group ∷ fs))
 begun fs closing = ended_call fs
 begun fs t = None
 
 -- one more token behind a function's name
 abbrev pub opened : List Frame → Token → Option State
-opened fs opening = Some (record { side = Wants; frames = fs })
+opened fs opening = Some (waiting fs)
 opened fs t = None
 
 -- one more token behind an operand
@@ -99,7 +108,7 @@ ended x fs t = None
 
 -- one more token
 abbrev pub stepped : Side → List Frame → Token → Option State
-stepped Head fs t = Some (record { side = Wants; frames = fs })
+stepped Head fs t = Some (waiting fs)
 stepped Wants fs t = begun fs t
 stepped Named fs t = opened fs t
 stepped (Has x) fs t = ended x fs t

@@ -1,6 +1,6 @@
 ghost use Rattle.std.specs.Prelude.{◌≡◌, ◌<◌, [], ◌∷◌, ◌++◌, reverse, IfSome, IfNone};
 ghost use Rattle.formula_read.specs.Nested.{Makes};
-ghost use Rattle.formula_read.specs.Stack.{wanted, joined, settled, operator_behind, closed, parted, ended_call, finished};
+ghost use Rattle.formula_read.specs.Stack.{wanted, joined, settled, waiting, operator_behind, closed, parted, ended_call, finished};
 ghost use Rattle.formula_read.specs.Steps.{Settles, Gives, Answers, IsSettled};
 ghost use Rattle.formula_tree.specs.Precedence.{precedence_of_operator};
 
@@ -62,8 +62,10 @@ impl Frame {
 
 /// Takes the last frame out where an operand that something of this precedence follows belongs to it.
 fn pop_tighter(frames: &mut Seq<Frame>, precedence: u8) -> Option<Frame>
-    ensures some { IfSome result (λ f. (frames.old ≡ frames.new ++ f ∷ []) × (precedence < wanted f)) }
-    ensures none { IfNone result ((frames.new ≡ frames.old) × IsSettled precedence (reverse frames.old)) }
+    ensures last { IfSome result (λ f. frames.old ≡ frames.new ++ f ∷ []) }
+    ensures tighter { IfSome result (λ f. precedence < wanted f) }
+    ensures kept { IfNone result (frames.new ≡ frames.old) }
+    ensures settled { IfNone result (IsSettled precedence (reverse frames.old)) }
 {
     match frames.as_slice().last() {
         Some(frame) if frame.wanted() > precedence => frames.pop(),
@@ -89,7 +91,7 @@ fn settle(
 
 /// A prefix sign or an open bracket where an operand is wanted.
 pub fn wait(frames: &mut Seq<Frame>, frame: Frame) -> Result<Side, Stop>
-    ensures { Gives result frames.new (Some (record { side = Side.Wants; frames = frame ∷ reverse frames.old })) }
+    ensures { Gives result frames.new (Some (waiting (frame ∷ reverse frames.old))) }
 {
     frames.push(frame)?;
     Ok(Side::Wants)
@@ -102,7 +104,8 @@ pub fn operate(
     operand: Operand,
     op: BinOp,
 ) -> Result<Side, Stop>
-    ensures { Gives result frames.new (Some (operator_behind op (settled (precedence_of_operator op) operand (reverse frames.old)))) }
+    ensures { let before = settled (precedence_of_operator op) operand (reverse frames.old) in
+        Gives result frames.new (Some (operator_behind op before)) }
 {
     let left = settle(alloc, frames, operand, op.precedence())?;
     frames.push(Frame::Left(left, op))?;

@@ -9,4 +9,4 @@ returns-in_err-operand c =
     let p = err_from_is_err_and c.from_residual.result c.from_residual.ensures.1 in
     rw (p.1, p.2)
     (refused_join c.args.precedence c.loop-frame.operand c.in-Some.frame c.loop-frame.frames c.pop_tighter.new.frames (settled c.args.precedence c.args.operand (reverse c.args.frames.now))
-    c.in-Some.ensures.some.0 c.in-Some.ensures.some.1 c.loop-frame.invariant c.in_err-operand.field-0.0 c.in_err-operand.ensures)
+    c.in-Some.ensures.last c.in-Some.ensures.tighter c.loop-frame.invariant c.in_err-operand.field-0.0 c.in_err-operand.ensures)
