@@ -1,6 +1,5 @@
 -- the text of a tree's tokens is cut into them
-use Rattle.std.proofs.Common.{◌≡◌, ℕ, suc, ◌+◌, ◌<◌, ◌^◌, Bool, true, false, cond, nat_lt, pos, negsuc, List, [], ◌∷◌, ◌++◌, length, map, Some, refl, ap, sym, ◌∙◌, subst, append_assoc, append-nil, arith}
-use Rattle.std.specs.List.{list_all}
+use Rattle.std.proofs.Common.{◌≡◌, ℕ, suc, ◌+◌, Bool, true, false, cond, nat_lt, pos, negsuc, List, [], ◌∷◌, ◌++◌, length, map, refl, ap, sym, ◌∙◌, subst, append_assoc, append-nil}
 use Rattle.ss_base.specs.declared.types.Spot.{Spot}
 use Rattle.ss_base.specs.declared.types.Span.{Span}
 use Rattle.formula_tree.specs.declared.operators.PreOp.{PreOp}
@@ -17,10 +16,10 @@ use Rattle.formula_tree.specs.Lexing.{Lexeme, Lexes, space_count, past_spaces}
 use Rattle.formula_tree.specs.Lexing as cut
 use Rattle.formula_tree.specs.Grammar.{operator_of_sign, Derives, Stands}
 use Rattle.formula_tree.specs.WellFormed.{IsWellFormed, AreWellFormed, IsFun}
-use Rattle.formula_tree.specs.Printed.{tree_text, formula_text}
+use Rattle.formula_tree.specs.Printed.{formula_text}
 use Rattle.formula_read.specs.Read.{kind_of}
 use Rattle.formula_read.specs.Behind.{goes_on}
-use Rattle.formula_print.proofs.TreeTokens.{token_text, token_texts, token_texts-append, placed_tokens, parted_tokens, tree_tokens, argument_tokens, numeral_of, tree_text-tokens}
+use Rattle.formula_print.proofs.TreeTokens.{token_text, token_texts, placed_tokens, parted_tokens, tree_tokens, argument_tokens, tree_text-tokens}
 use Rattle.formula_print.proofs.Derived.{expression_derives}
 use Rattle.formula_print.proofs.Parting.{is_operand, is_behind, is_operand-append, ends_tree, IsParted, parted_behind, parted_sign, parted_opening, parted_semicolon, parted_empty, parted_name}
 use Rattle.formula_print.proofs.Spelled.{ReadsCells, spells_numeral, numeral_operand, fault_operand, cell_begins, spells_range, name_spelled, name_begins, sign_behind, prefix_operand}

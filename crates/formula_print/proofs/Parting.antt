@@ -1,15 +1,14 @@
 -- bytes that may stand behind a token, so that it ends there
-use Rattle.std.proofs.Common.{◌≡◌, ℕ, Bool, true, false, cond, ◌&&◌, ◌||◌, nat_eq, List, [], ◌∷◌, ◌++◌, Option, Some, None, refl, ap, sym, ◌∙◌, arith}
-use Rattle.std.specs.Char.{is_ascii_alphabetic, is_ascii_digit}
+use Rattle.std.proofs.Common.{◌≡◌, ℕ, Bool, true, false, ◌||◌, nat_eq, List, [], ◌∷◌, ◌++◌, refl, arith}
+use Rattle.std.specs.Char.{is_ascii_digit}
 use Rattle.std.proofs.lemmas.Bool.Decides.{nat_tests}
 use Rattle.formula_tree.specs.Tokens.{Token, Follows, is_name_byte}
 use Rattle.formula_tree.specs.Tokens as token
 use Rattle.formula_tree.specs.declared.operators.BinOp.{BinOp}
 use Rattle.formula_tree.specs.Lexing.{space_count, past_spaces}
-use Rattle.formula_read.specs.declared.kinds.TokenKind.{TokenKind}
 use Rattle.formula_read.specs.declared.kinds.TokenKind.TheVariants as kind
 use Rattle.formula_read.specs.Read.{kind_of}
-use Rattle.formula_read.specs.Behind.{may_join, goes_on}
+use Rattle.formula_read.specs.Behind.{goes_on}
 use Rattle.formula_read.specs.Reading.{begins_operand, begins_sign}
 
 -- a byte behind an operand: an operator's, `)` or `;`

@@ -1,8 +1,8 @@
 -- the text of each token of a formula spells it
-use Rattle.std.proofs.Common.{◌≡◌, ℕ, ◌+◌, ◌<◌, ◌≤◌, ◌^◌, Bool, true, false, cond, ◌&&◌, ◌||◌, nat_eq, nat_le, pos, negsuc, List, [], ◌∷◌, ◌++◌, length, Option, Some, None, refl, ap, sym, ◌∙◌, arith, decimal}
-use Rattle.std.specs.Char.{is_ascii_alphabetic, is_ascii_digit, digit_value}
+use Rattle.std.proofs.Common.{◌≡◌, ℕ, ◌<◌, ◌≤◌, ◌^◌, Bool, true, false, ◌&&◌, nat_eq, nat_le, List, [], ◌∷◌, ◌++◌, length, Some, None, refl, sym, ◌∙◌, arith, decimal}
+use Rattle.std.specs.Char.{is_ascii_alphabetic, digit_value}
 use Rattle.std.specs.List.{list_all}
-use Rattle.std.specs.Str.Parse.{IsNumeral, digits_value}
+use Rattle.std.specs.Str.Parse.{IsNumeral}
 use Rattle.std.proofs.lemmas.Bool.{and_parts}
 use Rattle.std.proofs.lemmas.Bool.Decides.{nat_tests}
 use Rattle.std.proofs.lemmas.Fmt.{decimal_is_IsNumeral}
@@ -21,9 +21,8 @@ use Rattle.formula_tree.specs.Names.{name_of}
 use Rattle.formula_tree.specs.Tokens.{Token, Spells, SpellsRange, is_name, is_name_byte, upper_case, error_name, sign_text}
 use Rattle.formula_tree.specs.Tokens as token
 use Rattle.formula_tree.specs.Grammar.{operator_of_sign}
-use Rattle.formula_tree.specs.WellFormed.{IsFun, IsCell, IsRange}
+use Rattle.formula_tree.specs.WellFormed.{IsFun, IsRange}
 use Rattle.formula_read.specs.Reading.{begins_operand}
-use Rattle.formula_print.proofs.TreeTokens.{token_text, token_texts}
 use Rattle.formula_print.proofs.Parting.{is_operand, is_behind}
 
 -- what cell_addr says of addresses

@@ -4,15 +4,13 @@ use Rattle.std.specs.List.{join_with_byte}
 use Rattle.ss_base.specs.declared.types.Spot.{Spot}
 use Rattle.ss_base.specs.declared.types.Span.{Span}
 use Rattle.cell_addr.specs.Cells.{spot_text, span_text}
-use Rattle.formula_tree.specs.declared.operators.PreOp.{PreOp}
-use Rattle.formula_tree.specs.declared.operators.BinOp.{BinOp}
 use Rattle.formula_tree.specs.Names.{name_of}
 use Rattle.formula_tree.specs.Tree.{Tree, Trees, num, text, fault, cell, range, pre, bin, call, none, more}
 use Rattle.formula_tree.specs.Precedence.{precedence_of, precedence_of_operator}
 use Rattle.formula_tree.specs.Tokens.{Token, error_name, sign_text}
 use Rattle.formula_tree.specs.Tokens as token
 use Rattle.formula_tree.specs.Grammar.{operator_of_sign}
-use Rattle.formula_tree.specs.WellFormed.{IsNumber, IsWellFormed, AreWellFormed}
+use Rattle.formula_tree.specs.WellFormed.{IsWellFormed, AreWellFormed}
 use Rattle.formula_tree.specs.Printed.{placed_text, quoted, tree_text, argument_texts}
 
 -- what a token is printed as

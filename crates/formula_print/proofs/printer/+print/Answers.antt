@@ -1,8 +1,7 @@
-use Rattle.std.proofs.Common.{rules, ◌≡◌, ◌∙◌, List, ℕ, ap, sym, subst}
+use Rattle.std.proofs.Common.{rules, List, sym, subst}
 use Rattle.std.specs.Prelude.{All}
-use Rattle.formula_tree.specs.declared.expression.Expr.{Expr, Call, the_lemmas}
+use Rattle.formula_tree.specs.declared.expression.Expr.{Expr, the_lemmas}
 use Rattle.formula_tree.specs.Erase.{tree_of}
-use Rattle.formula_tree.specs.Printed.{tree_text}
 use Rattle.formula_tree.specs.WellFormed.{IsWellFormed}
 use Rattle.formula_print.proofs.Calls.{call_text, arguments_formed, parted_texts-more, both_appended}
 use Rattle.formula_print.proofs.printer.+print.Goals as goal
