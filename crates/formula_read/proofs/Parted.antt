@@ -13,7 +13,7 @@ use Rattle.formula_read.specs.declared.partial.Partial.TheVariants.{Fresh, Numer
 use Rattle.formula_read.specs.declared.partial.Address.{Address}
 use Rattle.formula_read.specs.declared.partial.Address.TheVariants.{Neither, Cell, Range}
 use Rattle.formula_read.specs.declared.partial.Corner.TheVariants.{Start, Dollar, Letters, Fixed, Digits}
-use Rattle.formula_read.specs.Partial.{step, kind_at, is_open, address_kind, word, name_step, address_step}
+use Rattle.formula_read.specs.Partial.{step, kind_at, is_open, address_kind}
 use Rattle.formula_read.specs.Longest.{run, first_byte}
 use Rattle.formula_read.specs.Read.{kind_of}
 use Rattle.formula_read.specs.Behind.{may_join, goes_on}
