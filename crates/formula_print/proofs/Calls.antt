@@ -18,7 +18,7 @@ use Rattle.formula_tree.specs.WellFormed.{IsWellFormed, AreWellFormed}
 use Rattle.formula_tree.specs.Printed.{tree_text, argument_texts}
 use Rattle.formula_print.specs.Arguments.{parted_texts}
 
-abbrev trees_from : List (Tree Spot Span) → Trees Spot Span
+abbrev pub trees_from : List (Tree Spot Span) → Trees Spot Span
 trees_from [] = none
 trees_from (t ∷ ts) = more t (trees_from ts)
 
@@ -26,7 +26,7 @@ trees_is : {n : _} (row : Row_of-Expr n) → trees_of row ≡ trees_from (map tr
 trees_is end_of-Expr = refl
 trees_is (more_of-Expr e row) = ap (more (tree_of e)) (trees_is row)
 
-tree_of-call : (f : Fun) (es : List Expr) → tree_of (Call f es) ≡ call f (trees_from (map tree_of es))
+pub tree_of-call : (f : Fun) (es : List Expr) → tree_of (Call f es) ≡ call f (trees_from (map tree_of es))
 tree_of-call f es = ap (call f) (trees_is (hidden-the_row-Expr-0 es) ∙ ap (λ (l : List Expr). trees_from (map tree_of l)) (items_hidden-the_row-Expr-0 es))
 
 listed : (es : List Expr) → argument_texts (trees_from (map tree_of es)) ≡ map (λ e. tree_text (tree_of e)) es

@@ -10,6 +10,7 @@ use cell_addr::letters_of;
 use itoa::Buffer;
 use ss_base::{Memory, Span, Spot};
 
+/// Appends a byte.
 pub fn push_byte(out: &mut Vec<u8>, byte: u8) -> Result<(), Memory>
     ensures { OnOk result (out.new.items ≡ out.old.items ++ byte ∷ []) }
 {
@@ -24,6 +25,7 @@ pub fn push_if(out: &mut Vec<u8>, wanted: bool, byte: u8) -> Result<(), Memory>
     if wanted { push_byte(out, byte) } else { Ok(()) }
 }
 
+/// Appends bytes.
 pub fn push_bytes(out: &mut Vec<u8>, bytes: &[u8]) -> Result<(), Memory>
     ensures { OnOk result (out.new.items ≡ out.old.items ++ bytes.now) }
 {

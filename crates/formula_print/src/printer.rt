@@ -17,8 +17,8 @@ use ss_base::{Memory, Txt};
 use std::alloc::Global;
 
 /// The text of a formula, with its leading `=`. It has no spaces, and brackets only where an operand
-/// binds more loosely than its place allows. Read again it is the same formula. The cost is linear in
-/// the text; it calls itself once a level, of which a formula has at most 64.
+/// binds more loosely than its place allows. The time is linear in the text. The printer calls itself
+/// once a level of the formula, which has at most 64.
 pub fn print(alloc: Global, formula: &Formula) -> Result<Txt, Memory>
     ensures text { IfOk result (λ t. t ≡ formula_text formula.now) }
 
