@@ -1,0 +1,52 @@
+-- What a formula sees: where its references lead, and the values there.
+use Rattle.std.specs.Prelude.{ℕ, ◌<◌, ◌≤◌, List, [], ◌∷◌, length, slice_index, Option, None, Some, option_map}
+use Rattle.ss_base.specs.declared.types.Spot.{Spot}
+use Rattle.ss_base.specs.declared.types.Span.{Span}
+use Rattle.ss_base.specs.declared.types.Size.{Size}
+use Rattle.sheet_value.specs.declared.value.Value.{Value}
+use Rattle.sheet_value.specs.declared.value.Value.TheVariants as value
+use Rattle.sheet_value.specs.declared.look.Seen.{Seen}
+use Rattle.sheet_value.specs.declared.look.Seen.TheVariants as seen
+use Rattle.sheet_value.specs.Values.{IsWithinLimit}
+
+-- One map of values by row and column; the row and column that a reference to a cell leads to, none where it is lost; and
+-- the visible rows and columns of a range, from first to last.
+pub record Environment : Type 0 where
+  pub value : ℕ → ℕ → Value
+  pub place : Spot → Option (ℕ × ℕ)
+  pub rows : Span → List ℕ
+  pub cols : Span → List ℕ
+
+-- no text is too long, and no range too large
+pub record IsSound (E : Environment) : Type 0 where
+  pub values : (row col : ℕ) → IsWithinLimit (E.value row col)
+  pub rows : (s : Span) → length (E.rows s) ≤ 16000
+  pub cols : (s : Span) → length (E.cols s) ≤ 16000
+
+-- the value of a cell, none where the reference is lost
+abbrev pub cell_value : Environment → Spot → Option Value
+cell_value E s = option_map (λ at. E.value at.0 at.1) (E.place s)
+
+-- so many rows and columns, none where one of the two has none
+abbrev pub size_of_lines : List ℕ → List ℕ → Option Size
+size_of_lines [] cols = None
+size_of_lines (r ∷ rows) [] = None
+size_of_lines (r ∷ rows) (c ∷ cols) = Some (record { rows = length (r ∷ rows); cols = length (c ∷ cols) })
+
+-- how many visible rows and columns a range has, none where it is lost
+abbrev pub range_shape : Environment → Span → Option Size
+range_shape E s = size_of_lines (E.rows s) (E.cols s)
+
+-- inside the visible part of a range, its rows and columns counted from 0
+abbrev pub IsInRange : Environment → Span → ℕ → ℕ → Type 0
+IsInRange E s row col = (row < length (E.rows s)) × (col < length (E.cols s))
+
+-- the value there
+abbrev pub range_value : Environment → Span → ℕ → ℕ → Value
+range_value E s row col = E.value (slice_index (E.rows s) row) (slice_index (E.cols s) col)
+
+-- the value that is seen, none where a reference is lost
+abbrev pub seen_value : Seen → Option Value
+seen_value seen.Empty = Some value.Empty
+seen_value seen.Lost = None
+seen_value (seen.Is v) = Some v.now

@@ -1,0 +1,22 @@
+//! Values of cells: their order, their conversions, what a formula sees of a sheet, and the values of
+//! a whole sheet.
+#![tactic(auto)]
+
+mod batch;
+mod convert;
+mod grid;
+mod law;
+mod look;
+mod ordering;
+mod value;
+
+pub use batch::{Batch, Change};
+pub use convert::{text_value, to_num, to_text};
+pub use grid::Grid;
+pub use law::order_is_total;
+pub use look::{Look, Seen};
+pub use ordering::{compare, order};
+pub use value::Value;
+
+#[cfg(test)]
+mod tests;
