@@ -1,0 +1,5 @@
+pub mod Histories
+pub mod Numbers
+pub mod Allowed
+pub mod Handing
+pub mod Closing

@@ -1,0 +1,40 @@
+use crate::book::Book;
+use crate::kept::Kept;
+use crate::pass::Pass;
+use crate::turns::Place;
+use ss_base::Seq;
+use std::marker::Model;
+use std::snapshot::Snapshot;
+
+/// The state of a closed book. Contracts see with it how many holds each pass had.
+#[derive(Drop)]
+pub struct Closed<S: Kept> {
+    pub(crate) state: S,
+    pub(crate) last: Snapshot<Place<S>>,
+}
+
+impl<S: Kept> Model for Closed<S> {
+    ghost use Rattle.std.specs.Prelude.{map};
+    ghost use Rattle.turn_book.specs.Passes.{ClosedOf};
+
+    ghost Value = { ClosedOf S };
+
+    ghost view = { λ c. record { state = c.state; holds = map (λ p. (p.number, p.holds)) c.last.value.me.0.parts } };
+}
+
+/// A book that was not closed, since not all of its passes were there, and those that were.
+#[derive(Drop)]
+pub struct Unclosed<S: Kept> {
+    pub book: Book<S>,
+    pub passes: Seq<Pass<S>>,
+}
+
+impl<S: Kept> Closed<S> {
+    ghost use Rattle.std.specs.Prelude.{◌≡◌};
+
+    pub fn state(&self) -> &S
+        ensures { result.now ≡ self.now.state }
+    {
+        &self.state
+    }
+}

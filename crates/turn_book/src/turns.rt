@@ -1,0 +1,81 @@
+//! The table below a book: one word, and one slot for the state.
+use crate::kept::{Kept, Made};
+use atomic_table::{Join, Play, Seat, Shared, Split, TableRule};
+use std::collections::LinkedList;
+use std::snapshot::Snapshot;
+
+/// What is known of a pass. No value of it is made.
+pub struct Part<I> {
+    pub number: u32,
+    pub opening: LinkedList<u32>,
+    pub seen: LinkedList<Made<I>>,
+    pub made: LinkedList<Made<I>>,
+    pub holds: u64,
+}
+
+/// What a seat knows: the passes that it has, and while it has the state the history that it found
+/// there. No value of it is made.
+pub struct View<I> {
+    pub parts: LinkedList<Part<I>>,
+    pub found: Option<LinkedList<Made<I>>>,
+}
+
+/// What the table is told when it is made: the state at the start, and the number of passes.
+pub struct Start<S> {
+    pub state: Snapshot<S>,
+    pub passes: u32,
+}
+
+pub struct Turns;
+
+impl<S: Kept> TableRule<Option<S>, View<S::Item>, Start<S>> for Turns {
+    ghost use Rattle.turn_book.specs.Turns.{IsKept, newcomers};
+
+    ghost holds = { λ key. IsKept S.opening S.history (S.opening key.state.value) key.passes };
+
+    ghost first = { λ key. newcomers (S.opening key.state.value) key.passes };
+}
+
+/// A step that takes the state if it is at home.
+pub struct Take;
+
+impl<S: Kept> Play<Option<S>, View<S::Item>> for Take {
+    ghost use Rattle.turn_book.specs.Turns.{takes_then};
+
+    ghost then = { takes_then S.opening S.history };
+}
+
+/// The step that gives the state back.
+pub struct Give;
+
+impl<S: Kept> Play<Option<S>, View<S::Item>> for Give {
+    ghost use Rattle.turn_book.specs.Turns.{gives_then};
+
+    ghost then = { gives_then S.history };
+}
+
+/// A new seat gets the first pass.
+pub struct FirstPass;
+
+impl<I> Split<View<I>> for FirstPass {
+    ghost use Rattle.turn_book.specs.Turns.{without_first, first_alone};
+
+    ghost left = { without_first };
+
+    ghost right = { first_alone };
+}
+
+/// One seat gets the passes of both.
+pub struct AllPasses;
+
+impl<I> Join<View<I>> for AllPasses {
+    ghost use Rattle.turn_book.specs.Turns.{both_views, spent};
+
+    ghost both = { both_views };
+
+    ghost spent = { spent };
+}
+
+pub type Top<S> = Shared<Option<S>, View<<S as Kept>::Item>, Start<S>, Turns>;
+
+pub type Place<S> = Seat<Option<S>, View<<S as Kept>::Item>>;
