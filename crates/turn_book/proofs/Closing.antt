@@ -1,18 +1,22 @@
 -- What stands when one seat has all passes.
 use Rattle.std.proofs.Common.{◌≡◌, ◌≢◌, ℕ, suc, ◌+◌, ◌<◌, List, [], ◌∷◌, ◌++◌, length, map, Some, None, Option, refl, ap, sym, ◌∙◌, subst, arith, inl, inr, append_assoc}
-use Rattle.std.specs.Prelude.{All, IsPermutation, ◌⊎◌, slice_set}
+use Rattle.std.specs.Prelude.{All, Contains, IsPermutation, IsSome, is_some, ◌⊎◌, slice_set}
 use Rattle.std.specs.List.{range_with_len}
 use Rattle.std.proofs.lemmas.List.{append-nil, length-append, length-map, nil_from_length}
-use Rattle.std.proofs.lemmas.List.FromFn.{length-range_with_len}
-use Rattle.std.proofs.lemmas.List.Sorted.{IsPermutation-trans, length_permutation}
+use Rattle.std.proofs.lemmas.List.FromFn.{get_or-range_with_len, length-range_with_len}
+use Rattle.std.proofs.lemmas.List.Elements.{All-map, All-weaker}
+use Rattle.std.proofs.lemmas.List.Sorted.{Contains-permutation, IsPermutation-trans, length_permutation}
+use mathlib.Core.List.{map-map}
 use mathlib.Core.Option.{some, some-injective}
 use lib.ListN.{get_elem?}
-use Rattle.atomic_table.specs.Table.{State, Seen}
+use Rattle.atomic_table.specs.Table.{State, Final, Seen}
+use Rattle.atomic_table.specs.Seated.{TableId}
 use Rattle.atomic_table.proofs.Lists.{set_else}
 use Rattle.turn_book.specs.declared.kept.Made.{Made}
 use Rattle.turn_book.specs.declared.turns.Part.{Part}
 use Rattle.turn_book.specs.declared.turns.View.{View}
-use Rattle.turn_book.specs.Turns.{Knows, AtHome, IsOut, IsKept, Ends, resting, holding, spent, numbers_of}
+use Rattle.turn_book.specs.Passes.{BookOf, PassOf, AreAll}
+use Rattle.turn_book.specs.Turns.{Knows, AtHome, IsOut, IsKept, Ends, resting, holding, spent, pass_of, numbers_of}
 use Rattle.turn_book.proofs.Numbers.{nums, same_right, seat_first}
 
 module _ {S I : Type 0} (opening_of : S → List ℕ) (history_of : S → List (Made I)) (opening : List ℕ) (passes : ℕ) where
@@ -63,3 +67,42 @@ module _ {S I : Type 0} (opening_of : S → List ℕ) (history_of : S → List (
           entries = subst (All (λ (e : Made I). e.pass < passes)) (sym h.history_is) kept.entries;
         },
       )
+
+  -- what a closed table has in its slot
+  pub ended : (id : ℕ) (v : View I) (words : List ℕ) (slots : List (Option S)) (taken : Option S) → v ≡ resting v.parts → length v.parts ≡ passes →
+      Final (Seen (IsKept opening_of history_of opening passes) id v) words slots → get_elem? slots 0 ≡ some taken → (state : S) × (taken ≡ Some state) × Ends opening_of history_of opening passes v.parts state
+  ended id v words slots taken is all (s, seen, words_is, deep, homes) there =
+      let (state, home, e) = ends id v.parts v s seen is all in
+      (state, some-injective taken (Some state) (sym there ∙ homes 0 (Some state) home), e)
+
+pub some_of : {A : Type 0} (o : Option A) (x : A) → o ≡ Some x → IsSome o
+some_of {A} o x is = ap is_some is
+
+pub same_value : {A : Type 0} (o : Option A) (x y : A) → o ≡ Some x → o ≡ Some y → x ≡ y
+same_value {A} o x y a b = cc
+
+-- what the end shows of passes as contracts see them
+module _ {S I : Type 0} (opening_of : S → List ℕ) (history_of : S → List (Made I)) (opening : List ℕ) (count : ℕ) (table : TableId) (parts : List (Part I)) (passes : List (PassOf I)) (state : S)
+    (e : Ends opening_of history_of opening count parts state) (is : map (λ (p : Part I). pass_of table p) parts ≡ passes) where
+  pub each_of : (P : PassOf I → Type 0) → ((p : Part I) → Knows opening count (history_of state) p → P (pass_of table p)) → All P passes
+  each_of P known = subst (All P) is (All-map P (pass_of table) parts (All-weaker (Knows opening count (history_of state)) (λ (p : Part I). P (pass_of table p)) known parts e.each))
+
+  numbers_are : map (λ (p : Part I). p.number) parts ≡ map (λ (p : PassOf I). p.number) passes
+  numbers_are = sym (map-map (λ (p : PassOf I). p.number) (pass_of table) parts) ∙ ap (map (λ (p : PassOf I). p.number)) is
+
+  pub all_there : IsPermutation (range_with_len 0 count) (map (λ (p : PassOf I). p.number) passes)
+  all_there = same_right (range_with_len 0 count) (map (λ (p : Part I). p.number) parts) (map (λ (p : PassOf I). p.number) passes) numbers_are e.given
+
+  pub none_else : All (λ (m : Made I). Contains (map (λ (p : PassOf I). p.number) passes) m.pass) (history_of state)
+  none_else = All-weaker (λ (m : Made I). m.pass < count) (λ (m : Made I). Contains (map (λ (p : PassOf I). p.number) passes) m.pass)
+      (λ m small. Contains-permutation (range_with_len 0 count) (map (λ (p : PassOf I). p.number) passes) m.pass all_there
+        (m.pass, rw (length-range_with_len 0 count) small, get_or-range_with_len 0 count m.pass m.pass small ∙ omega arith)) (history_of state) e.entries
+
+  pub holds_are : map {B = ℕ × ℕ} (λ (p : Part I). (p.number, p.holds)) parts ≡ map {B = ℕ × ℕ} (λ (p : PassOf I). (p.number, p.holds)) passes
+  holds_are = sym (map-map {C = ℕ × ℕ} (λ (p : PassOf I). (p.number, p.holds)) (pass_of table) parts) ∙ ap (map {B = ℕ × ℕ} (λ (p : PassOf I). (p.number, p.holds))) is
+
+-- passes that are not as many are not all
+pub not_all : {I : Type 0} (book : BookOf) (passes : List (PassOf I)) → length passes ≢ book.passes → ¬ AreAll book passes
+not_all {I} book passes other all =
+    let count = length_permutation (range_with_len 0 book.passes) (map (λ (p : PassOf I). p.number) passes) all in
+    other (omega (arith, length-map passes (λ (p : PassOf I). p.number), length-range_with_len 0 book.passes))

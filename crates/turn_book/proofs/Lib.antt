@@ -3,3 +3,4 @@ pub mod Numbers
 pub mod Allowed
 pub mod Handing
 pub mod Closing
+pub mod Dealing

@@ -1,17 +1,20 @@
+use crate::closed::{Closed, Unclosed};
 use crate::held::Held;
 use crate::kept::Kept;
 use crate::pass::Pass;
-use crate::steps::take;
-use crate::turns::{Start, Turns, View};
+use crate::steps::{deal, end, gather, take};
+use crate::turns::{Root, Start};
 use atomic_table::Table;
+use ss_base::{Memory, Seq};
 use std::alloc::Global;
 use std::marker::Model;
+use std::snapshot::Snapshot;
 use std::sync::Wait;
 
 /// A state that one pass at a time may change.
 #[derive(Drop)]
 pub struct Book<S: Kept> {
-    pub(crate) table: Table<Option<S>, View<S::Item>, Start<S>, Turns, Global>,
+    pub(crate) table: Root<S>,
     passes: u32,
 }
 
@@ -26,9 +29,41 @@ impl<S: Kept> Model for Book<S> {
     ghost invariant = { λ b. (b.table.shared.table_id.words ≡ 1) × (b.table.shared.table_id.slots ≡ 1) × (b.passes ≡ b.table.shared.key.passes) × (0 < b.passes) };
 }
 
+impl<S: Kept + Drop> Book<S> {
+    ghost use Rattle.std.specs.Prelude.{◌≡◌, ◌<◌, [], IfOk};
+    ghost use Rattle.turn_book.specs.Passes.{new_passes};
+
+    /// A book of this state, and its passes in the order of their numbers, from 0. A refused call
+    /// drops the state.
+    pub fn new(
+        alloc: Global,
+        state: S,
+        passes: u32,
+    ) -> Result<(Book<S>, Seq<Pass<S>>), Memory>
+        requires some { 0 < passes }
+        requires empty { S.history state ≡ [] }
+        ensures opening { IfOk result (λ r. r.0.opening ≡ S.opening state) }
+        ensures count { IfOk result (λ r. r.0.passes ≡ passes) }
+        ensures passes { IfOk result (λ r. r.1 ≡ new_passes r.0) }
+    {
+        let start = Start {
+            state: Snapshot::of(&state),
+            passes,
+        };
+        let mut slots = Vec::new(alloc);
+        slots.push(Some(state))?;
+        let Ok((table, seat)) = Table::new(alloc, &[0], slots, &start) else {
+            return Err(Memory);
+        };
+        let dealt = deal(alloc, &table.shared, seat, passes)?;
+        Ok((Book { table, passes }, dealt))
+    }
+}
+
 impl<S: Kept> Book<S> {
-    ghost use Rattle.std.specs.Prelude.{◌≡◌, ◌≢◌, ◌<◌, [], map};
+    ghost use Rattle.std.specs.Prelude.{◌≡◌, ◌≢◌, ◌<◌, [], All, Contains, OnOk, OnErr, IfOk, IfErr, map};
     ghost use Rattle.turn_book.specs.Entries.{IsPrefixOf, made_by, entries_of};
+    ghost use Rattle.turn_book.specs.Passes.{AreOf, AreAll};
 
     /// Waits until no other pass has the state, and takes it.
     pub fn enter<R: Wait>(&self, rt: &R, pass: Pass<S>) -> Held<'_, S>
@@ -48,5 +83,34 @@ impl<S: Kept> Book<S> {
             seat,
             state,
         }
+    }
+
+    /// Ends a book whose passes are all there. Otherwise the book and the passes come back.
+    pub fn close(self, passes: Seq<Pass<S>>) -> Result<Closed<S>, Unclosed<S>>
+        requires { AreOf self passes }
+        ensures all { OnOk result (AreAll self passes) }
+        ensures missing { OnErr result (¬ AreAll self passes) }
+        ensures back { IfErr result (λ u. (u.book ≡ self) × (u.passes ≡ passes)) }
+
+        // What the state is.
+        ensures opening { IfOk result (λ c. S.opening c.state ≡ self.opening) }
+        ensures openings { IfOk result (λ c. All (λ p. p.opening ≡ S.opening c.state) passes) }
+        ensures seen { IfOk result (λ c. All (λ p. IsPrefixOf p.seen (S.history c.state)) passes) }
+        ensures made { IfOk result (λ c. All (λ p. made_by p.number (S.history c.state) ≡ p.made) passes) }
+        ensures no_other { IfOk result (λ c. All (λ e. Contains (map (λ p. p.number) passes) e.pass) (S.history c.state)) }
+
+        // What the passes are.
+        ensures numbered { OnOk result (All (λ p. p.made ≡ entries_of p.number 0 (map (λ e. e.item) p.made)) passes) }
+        ensures held { OnOk result (All (λ p. p.seen ≢ [] → 0 < p.holds) passes) }
+        ensures holds { IfOk result (λ c. c.holds ≡ map (λ p. (p.number, p.holds)) passes) }
+    {
+        if passes.len() != self.passes as usize {
+            return Err(Unclosed { book: self, passes });
+        }
+        let Book { table, passes: _ } = self;
+        let place = gather(&table.shared, passes);
+        let last = Snapshot::of(&place);
+        let state = end(table, place);
+        Ok(Closed { state, last })
     }
 }

@@ -1,6 +1,7 @@
 //! The table below a book: one word, and one slot for the state.
 use crate::kept::{Kept, Made};
-use atomic_table::{Join, Play, Seat, Shared, Split, TableRule};
+use atomic_table::{Join, Play, Seat, Shared, Split, Table, TableRule};
+use std::alloc::Global;
 use std::collections::LinkedList;
 use std::snapshot::Snapshot;
 
@@ -21,6 +22,7 @@ pub struct View<I> {
 }
 
 /// What the table is told when it is made: the state at the start, and the number of passes.
+#[derive(Drop)]
 pub struct Start<S> {
     pub state: Snapshot<S>,
     pub passes: u32,
@@ -79,3 +81,5 @@ impl<I> Join<View<I>> for AllPasses {
 pub type Top<S> = Shared<Option<S>, View<<S as Kept>::Item>, Start<S>, Turns>;
 
 pub type Place<S> = Seat<Option<S>, View<<S as Kept>::Item>>;
+
+pub type Root<S> = Table<Option<S>, View<<S as Kept>::Item>, Start<S>, Turns, Global>;

@@ -1,0 +1,15 @@
+use Rattle.std.proofs.Common.{◌≡◌, ◌++◌, [], map, All}
+use Rattle.turn_book.specs.Turns.{resting, pass_of}
+use Rattle.turn_book.proofs.Dealing.{AllOf}
+use Rattle.turn_book.proofs.steps.gather.Given as goal
+
+abbrev pub invariant-loop-pass : goal.invariant-loop-pass
+invariant-loop-pass g l = record {
+  table : l.place.table_id ≡ l.top.table_id;
+  rests : l.place.me ≡ (resting l.place.me.0.parts, []);
+  of_book : AllOf l.top.table_id l.left.items;
+  passes : l.left.items ++ map (pass_of l.top.table_id) l.place.me.0.parts ≡ l.fn.passes;
+}
+
+abbrev pub decreases-loop-pass : goal.decreases-loop-pass
+decreases-loop-pass g l = goal.left-loop-pass g l
