@@ -14,3 +14,6 @@ pub use closed::{Closed, Unclosed};
 pub use held::Held;
 pub use kept::{Kept, Made};
 pub use pass::Pass;
+
+#[cfg(test)]
+mod tests;
