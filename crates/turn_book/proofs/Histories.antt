@@ -6,9 +6,9 @@ use Rattle.std.proofs.lemmas.List as lists
 use Rattle.std.proofs.lemmas.List.Elements.{All-cons, All-nil, filter-append}
 use Rattle.std.proofs.lemmas.Bool.Decides.{nat_tests}
 use Rattle.turn_book.specs.declared.kept.Made.{Made}
-use Rattle.turn_book.specs.declared.turns.Part.{Part}
+use Rattle.turn_book.specs.declared.turns.Standing.{Standing}
 use Rattle.turn_book.specs.Entries.{IsPrefixOf, made_by, entries_of}
-use Rattle.turn_book.specs.Turns.{Follows, part_after}
+use Rattle.turn_book.specs.Turns.{Follows, after_hold}
 
 pub whole : {A : Type 0} (xs : List A) → IsPrefixOf xs xs
 whole xs = ([], append-nil xs)
@@ -38,7 +38,7 @@ module _ {I : Type 0} where
   entries_of-append n k [] ys = ap (λ (j : ℕ). entries_of n j ys) (omega arith)
   entries_of-append n k (x ∷ xs) ys =
       ap (λ (es : List (Made I)). record { pass = n; number = k; item = x } ∷ es)
-        (entries_of-append n (k + 1) xs ys ∙ ap (λ (j : ℕ). entries_of n (k + 1) xs ++ entries_of n j ys) (omega arith))
+      (entries_of-append n (k + 1) xs ys ∙ ap (λ (j : ℕ). entries_of n (k + 1) xs ++ entries_of n j ys) (omega arith))
 
   pub items-entries_of : (n k : ℕ) (items : List I) → map (λ (e : Made I). e.item) (entries_of n k items) ≡ items
   items-entries_of n k [] = refl
@@ -50,7 +50,7 @@ module _ {I : Type 0} where
       All-cons (λ (e : Made I). e.pass < passes) (record { pass = n; number = k; item = i }) (entries_of n (k + 1) items) small (passes-entries_of n (k + 1) passes items small)
 
   -- another pass follows on
-  pub follows_more : (hist : List (Made I)) (q : Part I) (n k : ℕ) (items : List I) → q.number ≢ n → Follows hist q → Follows (hist ++ entries_of n k items) q
+  pub follows_more : (hist : List (Made I)) (q : Standing I) (n k : ℕ) (items : List I) → q.number ≢ n → Follows hist q → Follows (hist ++ entries_of n k items) q
   follows_more hist q n k items apart f = record {
     seen = prefix_more q.seen hist (entries_of n k items) f.seen;
     made = filter-append (λ (e : Made I). nat_eq e.pass q.number) hist (entries_of n k items)
@@ -60,18 +60,18 @@ module _ {I : Type 0} where
   }
 
   -- what the pass itself has after its hold
-  pub made_after : (hist : List (Made I)) (p : Part I) (items : List I) → (part_after p hist (hist ++ entries_of p.number (length p.made) items)).made ≡ p.made ++ entries_of p.number (length p.made) items
+  pub made_after : (hist : List (Made I)) (p : Standing I) (items : List I) → (after_hold p hist (hist ++ entries_of p.number (length p.made) items)).made ≡ p.made ++ entries_of p.number (length p.made) items
   made_after hist p items = ap (λ (es : List (Made I)). p.made ++ es) (lists.drop_at hist (entries_of p.number (length p.made) items) (length hist) refl)
 
-  pub follows_after : (hist : List (Made I)) (p : Part I) (items : List I) → Follows hist p →
-      Follows (hist ++ entries_of p.number (length p.made) items) (part_after p hist (hist ++ entries_of p.number (length p.made) items))
+  pub follows_after : (hist : List (Made I)) (p : Standing I) (items : List I) → Follows hist p →
+      Follows (hist ++ entries_of p.number (length p.made) items) (after_hold p hist (hist ++ entries_of p.number (length p.made) items))
   follows_after hist p items f =
       let more = entries_of p.number (length p.made) items in
-      let is : (part_after p hist (hist ++ more)).made ≡ p.made ++ more = made_after hist p items in record {
+      let is : (after_hold p hist (hist ++ more)).made ≡ p.made ++ more = made_after hist p items in record {
         seen = whole (hist ++ more);
         made = filter-append (λ (e : Made I). nat_eq e.pass p.number) hist more
             ∙ (ap (λ (es : List (Made I)). made_by p.number hist ++ es) (made_by_itself p.number (length p.made) items)
-              ∙ (ap (λ (es : List (Made I)). es ++ more) f.made ∙ sym is));
+            ∙ (ap (λ (es : List (Made I)). es ++ more) f.made ∙ sym is));
         numbered = subst (λ (es : List (Made I)). es ≡ entries_of p.number 0 (map (λ (e : Made I). e.item) es)) (sym is) (numbered_more p.number p.made items f.numbered);
         held = λ _. omega arith;
       }

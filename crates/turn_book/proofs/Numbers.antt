@@ -10,7 +10,7 @@ use Rattle.std.proofs.lemmas.Bool.Decides.{nat_tests}
 use mathlib.Core.Option.{some}
 use lib.ListN.{get_elem?}
 use Rattle.atomic_table.proofs.Lists.{set_else, set_again, set_here}
-use Rattle.turn_book.specs.declared.turns.Part.{Part}
+use Rattle.turn_book.specs.declared.turns.Standing.{Standing}
 use Rattle.turn_book.specs.declared.turns.View.{View}
 use Rattle.turn_book.specs.Turns.{numbers_of, resting, spent, both_views}
 
@@ -54,7 +54,7 @@ others_differ passes k ks rest p i d small same =
     let once : sum_by f (range_with_len 0 passes) ≤ 1 = at_most_once k 0 passes in
     let all : sum_by f (k ∷ (ks ++ rest)) ≡ sum_by f (range_with_len 0 passes) = sum_by-IsPermutation f (range_with_len 0 passes) (k ∷ (ks ++ rest)) p in
     let first : sum_by f (k ∷ (ks ++ rest)) ≡ f k + sum_by f (ks ++ rest) = sum_by-cons f k (ks ++ rest) in
-    let parts : sum_by f (ks ++ rest) ≡ sum_by f ks + sum_by f rest = sum_by-append f ks rest in
+    let standings : sum_by f (ks ++ rest) ≡ sum_by f ks + sum_by f rest = sum_by-append f ks rest in
     let second : f (get_or ks i d) ≤ sum_by f ks = get_or-le-sum_by f ks i d small in
     let one = counts_itself k in
     let other = ap f same in
@@ -65,7 +65,7 @@ others_differ passes k ks rest p i d small same =
 
 module _ {I : Type 0} where
   abbrev pub nums : View I → List ℕ
-  nums v = map (λ (p : Part I). p.number) v.parts
+  nums v = map (λ (p : Standing I). p.number) v.standings
 
   pub numbers_of-append : (vs ws : List (View I)) → numbers_of (vs ++ ws) ≡ numbers_of vs ++ numbers_of ws
   numbers_of-append [] ws = refl
@@ -91,39 +91,39 @@ module _ {I : Type 0} where
   taken_out (x ∷ xs) (suc id) v w there =
       let others : List ℕ = numbers_of (slice_set xs id spent) in
       IsPermutation-trans (nums x ++ numbers_of (slice_set xs id w)) (nums x ++ (nums w ++ others)) (nums w ++ (nums x ++ others))
-        (IsPermutation-append_right (nums x) (numbers_of (slice_set xs id w)) (nums w ++ others) (taken_out xs id v w there))
-        (exchanged (nums x) (nums w) others)
+      (IsPermutation-append_right (nums x) (numbers_of (slice_set xs id w)) (nums w ++ others) (taken_out xs id v w there))
+      (exchanged (nums x) (nums w) others)
 
   pub seat_first : (views : List (View I)) (id : ℕ) (v : View I) → get_elem? views id ≡ some v → IsPermutation (numbers_of views) (nums v ++ numbers_of (slice_set views id spent))
   seat_first views id v there =
       same_left (numbers_of views) (numbers_of (slice_set views id v)) (nums v ++ numbers_of (slice_set views id spent))
-        (ap (λ (vs : List (View I)). numbers_of vs) (sym (set_again views id v there))) (taken_out views id v v there)
+      (ap (λ (vs : List (View I)). numbers_of vs) (sym (set_again views id v there))) (taken_out views id v v there)
 
   -- the numbers of two seats, and then those of all others
   pub two_first : (views : List (View I)) (id j : ℕ) (v u : View I) → get_elem? views id ≡ some v → get_elem? views j ≡ some u → j ≢ id →
       IsPermutation (numbers_of views) (nums v ++ (nums u ++ numbers_of (slice_set (slice_set views id spent) j spent)))
   two_first views id j v u there here apart =
       IsPermutation-trans (numbers_of views) (nums v ++ numbers_of (slice_set views id spent)) (nums v ++ (nums u ++ numbers_of (slice_set (slice_set views id spent) j spent)))
-        (seat_first views id v there)
-        (IsPermutation-append_right (nums v) (numbers_of (slice_set views id spent)) (nums u ++ numbers_of (slice_set (slice_set views id spent) j spent))
-          (seat_first (slice_set views id spent) j u (set_else views id j spent apart ∙ here)))
+      (seat_first views id v there)
+      (IsPermutation-append_right (nums v) (numbers_of (slice_set views id spent)) (nums u ++ numbers_of (slice_set (slice_set views id spent) j spent))
+      (seat_first (slice_set views id spent) j u (set_else views id j spent apart ∙ here)))
 
   -- a seat's first pass goes to a new seat
-  pub numbers_of-split : (views : List (View I)) (id : ℕ) (v : View I) (p : Part I) (ps : List (Part I)) → get_elem? views id ≡ some v → v.parts ≡ p ∷ ps →
+  pub numbers_of-split : (views : List (View I)) (id : ℕ) (v : View I) (p : Standing I) (ps : List (Standing I)) → get_elem? views id ≡ some v → v.standings ≡ p ∷ ps →
       IsPermutation (numbers_of views) (numbers_of (slice_set views id (resting ps) ++ resting (p ∷ []) ∷ []))
   numbers_of-split views id v p ps there is =
       let others : List ℕ = numbers_of (slice_set views id spent) in
-      let left : List ℕ = map (λ (q : Part I). q.number) ps in
+      let left : List ℕ = map (λ (q : Standing I). q.number) ps in
       let before : IsPermutation (numbers_of views) (p.number ∷ (left ++ others)) =
-          same_right (numbers_of views) (nums v ++ others) (p.number ∷ (left ++ others)) (ap (λ (qs : List (Part I)). map (λ (q : Part I). q.number) qs ++ others) is) (seat_first views id v there) in
+      same_right (numbers_of views) (nums v ++ others) (p.number ∷ (left ++ others)) (ap (λ (qs : List (Standing I)). map (λ (q : Standing I). q.number) qs ++ others) is) (seat_first views id v there) in
       let after : IsPermutation (numbers_of (slice_set views id (resting ps)) ++ p.number ∷ []) (p.number ∷ (left ++ others)) =
-          IsPermutation-trans (numbers_of (slice_set views id (resting ps)) ++ p.number ∷ []) ((left ++ others) ++ p.number ∷ []) (p.number ∷ (left ++ others))
-            (IsPermutation-append_left (p.number ∷ []) (numbers_of (slice_set views id (resting ps))) (left ++ others) (taken_out views id v (resting ps) there))
-            (IsPermutation-to_front (left ++ others) p.number) in
+      IsPermutation-trans (numbers_of (slice_set views id (resting ps)) ++ p.number ∷ []) ((left ++ others) ++ p.number ∷ []) (p.number ∷ (left ++ others))
+      (IsPermutation-append_left (p.number ∷ []) (numbers_of (slice_set views id (resting ps))) (left ++ others) (taken_out views id v (resting ps) there))
+      (IsPermutation-to_front (left ++ others) p.number) in
       IsPermutation-trans (numbers_of views) (p.number ∷ (left ++ others)) (numbers_of (slice_set views id (resting ps) ++ resting (p ∷ []) ∷ [])) before
-        (same_right (p.number ∷ (left ++ others)) (numbers_of (slice_set views id (resting ps)) ++ p.number ∷ []) (numbers_of (slice_set views id (resting ps) ++ resting (p ∷ []) ∷ []))
-          (sym (numbers_of-append (slice_set views id (resting ps)) (resting (p ∷ []) ∷ [])))
-          (IsPermutation-sym (numbers_of (slice_set views id (resting ps)) ++ p.number ∷ []) (p.number ∷ (left ++ others)) after))
+      (same_right (p.number ∷ (left ++ others)) (numbers_of (slice_set views id (resting ps)) ++ p.number ∷ []) (numbers_of (slice_set views id (resting ps) ++ resting (p ∷ []) ∷ []))
+      (sym (numbers_of-append (slice_set views id (resting ps)) (resting (p ∷ []) ∷ [])))
+      (IsPermutation-sym (numbers_of (slice_set views id (resting ps)) ++ p.number ∷ []) (p.number ∷ (left ++ others)) after))
 
   -- a seat's passes go to another
   pub numbers_of-joined : (views : List (View I)) (id other : ℕ) (v w : View I) → get_elem? views id ≡ some v → get_elem? (slice_set views id (both_views v w)) other ≡ some w → other ≢ id →
@@ -135,12 +135,12 @@ module _ {I : Type 0} where
       let here_before : get_elem? views other ≡ some w = sym (set_else views id other both apart) ∙ here in
       let at_id : get_elem? after id ≡ some both = set_else (slice_set views id both) other id spent (λ e. apart (sym e)) ∙ set_here views id both (within views id v there) in
       let rest : slice_set after id spent ≡ slice_set (slice_set views id spent) other spent =
-          set_comm (slice_set views id both) other id spent spent apart ∙ ap (λ (vs : List (View I)). slice_set vs other spent) (set-set views id both spent) in
-      let both_is : nums both ≡ nums w ++ nums v = map-append (λ (p : Part I). p.number) w.parts v.parts in
+      set_comm (slice_set views id both) other id spent spent apart ∙ ap (λ (vs : List (View I)). slice_set vs other spent) (set-set views id both spent) in
+      let both_is : nums both ≡ nums w ++ nums v = map-append (λ (p : Standing I). p.number) w.standings v.standings in
       let after_is : IsPermutation (numbers_of after) (nums w ++ (nums v ++ others)) =
-          same_right (numbers_of after) (nums both ++ numbers_of (slice_set after id spent)) (nums w ++ (nums v ++ others))
-            (ap (λ (vs : List (View I)). nums both ++ numbers_of vs) rest ∙ (ap (λ (ns : List ℕ). ns ++ others) both_is ∙ append_assoc (nums w) (nums v) others))
-            (seat_first after id both at_id) in
+      same_right (numbers_of after) (nums both ++ numbers_of (slice_set after id spent)) (nums w ++ (nums v ++ others))
+      (ap (λ (vs : List (View I)). nums both ++ numbers_of vs) rest ∙ (ap (λ (ns : List ℕ). ns ++ others) both_is ∙ append_assoc (nums w) (nums v) others))
+      (seat_first after id both at_id) in
       IsPermutation-trans (numbers_of views) (nums w ++ (nums v ++ others)) (numbers_of after)
-        (IsPermutation-trans (numbers_of views) (nums v ++ (nums w ++ others)) (nums w ++ (nums v ++ others)) (two_first views id other v w there here_before apart) (exchanged (nums v) (nums w) others))
-        (IsPermutation-sym (numbers_of after) (nums w ++ (nums v ++ others)) after_is)
+      (IsPermutation-trans (numbers_of views) (nums v ++ (nums w ++ others)) (nums w ++ (nums v ++ others)) (two_first views id other v w there here_before apart) (exchanged (nums v) (nums w) others))
+      (IsPermutation-sym (numbers_of after) (nums w ++ (nums v ++ others)) after_is)

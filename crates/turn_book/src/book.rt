@@ -3,7 +3,7 @@ use crate::held::Held;
 use crate::kept::Kept;
 use crate::pass::Pass;
 use crate::steps::{deal, end, gather, take};
-use crate::turns::{Root, Start};
+use crate::turns::{BookTable, Start};
 use atomic_table::Table;
 use ss_base::{Memory, Seq};
 use std::alloc::Global;
@@ -14,7 +14,7 @@ use std::sync::Wait;
 /// A state that one pass at a time may change.
 #[derive(Drop)]
 pub struct Book<S: Kept> {
-    pub(crate) table: Root<S>,
+    pub(crate) table: BookTable<S>,
     passes: u32,
 }
 
@@ -35,11 +35,7 @@ impl<S: Kept + Drop> Book<S> {
 
     /// A book of this state, and its passes in the order of their numbers, from 0. A refused call
     /// drops the state.
-    pub fn new(
-        alloc: Global,
-        state: S,
-        passes: u32,
-    ) -> Result<(Book<S>, Seq<Pass<S>>), Memory>
+    pub fn new(alloc: Global, state: S, passes: u32) -> Result<(Book<S>, Seq<Pass<S>>), Memory>
         requires some { 0 < passes }
         requires empty { S.history state ≡ [] }
         ensures opening { IfOk result (λ r. r.0.opening ≡ S.opening state) }
@@ -108,9 +104,9 @@ impl<S: Kept> Book<S> {
             return Err(Unclosed { book: self, passes });
         }
         let Book { table, passes: _ } = self;
-        let place = gather(&table.shared, passes);
-        let last = Snapshot::of(&place);
-        let state = end(table, place);
+        let seat = gather(&table.shared, passes);
+        let last = Snapshot::of(&seat);
+        let state = end(table, seat);
         Ok(Closed { state, last })
     }
 }

@@ -1,7 +1,7 @@
 use crate::book::Book;
 use crate::kept::Kept;
 use crate::pass::Pass;
-use crate::turns::Place;
+use crate::turns::BookSeat;
 use ss_base::Seq;
 use std::marker::Model;
 use std::snapshot::Snapshot;
@@ -10,7 +10,7 @@ use std::snapshot::Snapshot;
 #[derive(Drop)]
 pub struct Closed<S: Kept> {
     pub(crate) state: S,
-    pub(crate) last: Snapshot<Place<S>>,
+    pub(crate) last: Snapshot<BookSeat<S>>,
 }
 
 impl<S: Kept> Model for Closed<S> {
@@ -19,7 +19,7 @@ impl<S: Kept> Model for Closed<S> {
 
     ghost Value = { ClosedOf S };
 
-    ghost view = { λ c. record { state = c.state; holds = map (λ p. (p.number, p.holds)) c.last.value.me.0.parts } };
+    ghost view = { λ c. record { state = c.state; holds = map (λ p. (p.number, p.holds)) c.last.value.me.0.standings } };
 }
 
 /// A book that was not closed, since not all of its passes were there, and those that were.

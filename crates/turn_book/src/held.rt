@@ -2,13 +2,13 @@ use crate::book::Book;
 use crate::kept::Kept;
 use crate::pass::Pass;
 use crate::steps::give;
-use crate::turns::Place;
+use crate::turns::BookSeat;
 use std::marker::Model;
 
 /// The state of a book, for the pass that entered. It has to be left, and is never dropped.
 pub struct Held<'a, S: Kept> {
     pub(crate) book: &'a Book<S>,
-    pub(crate) seat: Place<S>,
+    pub(crate) seat: BookSeat<S>,
     pub(crate) state: S,
 }
 
@@ -16,14 +16,14 @@ impl<'a, S: Kept> Model for Held<'a, S> {
     ghost use Rattle.std.specs.Prelude.{◌≡◌, ◌∷◌, [], List, None};
     ghost use Rattle.turn_book.specs.Passes.{HeldOf};
     ghost use Rattle.turn_book.specs.declared.kept.Made.{Made};
-    ghost use Rattle.turn_book.specs.declared.turns.Part.{Part};
-    ghost use Rattle.turn_book.specs.Turns.{holding, part_of, found_of, pass_of};
+    ghost use Rattle.turn_book.specs.declared.turns.Standing.{Standing};
+    ghost use Rattle.turn_book.specs.Turns.{holding, standing_of, found_of, pass_of};
 
     ghost Value = { HeldOf S S.Item };
 
-    ghost view = { λ h. record { pass = pass_of h.seat.table_id (part_of h.seat.me.0); found = found_of h.seat.me.0; state = h.state } };
+    ghost view = { λ h. record { pass = pass_of h.seat.table_id (standing_of h.seat.me.0); found = found_of h.seat.me.0; state = h.state } };
 
-    ghost invariant = { λ h. (h.seat.table_id ≡ h.book.now.id) × ((part : Part S.Item) × (found : List (Made S.Item)) × (h.seat.me ≡ (holding part found, (0, None) ∷ []))) };
+    ghost invariant = { λ h. (h.seat.table_id ≡ h.book.now.id) × ((standing : Standing S.Item) × (found : List (Made S.Item)) × (h.seat.me ≡ (holding standing found, (0, None) ∷ []))) };
 }
 
 impl<'a, S: Kept> Held<'a, S> {

@@ -1,23 +1,23 @@
 use crate::kept::Kept;
-use crate::turns::Place;
+use crate::turns::BookSeat;
 use std::marker::Model;
 
 /// The right of one thread to enter a book, with what it has seen and made there. It has no bytes.
 /// A pass that is dropped leaves a book that is never closed.
 #[derive(Drop)]
 pub struct Pass<S: Kept> {
-    pub(crate) seat: Place<S>,
+    pub(crate) seat: BookSeat<S>,
 }
 
 impl<S: Kept> Model for Pass<S> {
     ghost use Rattle.std.specs.Prelude.{◌≡◌, ◌∷◌, []};
     ghost use Rattle.turn_book.specs.Passes.{PassOf};
-    ghost use Rattle.turn_book.specs.declared.turns.Part.{Part};
-    ghost use Rattle.turn_book.specs.Turns.{resting, part_of, pass_of};
+    ghost use Rattle.turn_book.specs.declared.turns.Standing.{Standing};
+    ghost use Rattle.turn_book.specs.Turns.{resting, standing_of, pass_of};
 
     ghost Value = { PassOf S.Item };
 
-    ghost view = { λ p. pass_of p.seat.table_id (part_of p.seat.me.0) };
+    ghost view = { λ p. pass_of p.seat.table_id (standing_of p.seat.me.0) };
 
-    ghost invariant = { λ p. (part : Part S.Item) × (p.seat.me ≡ (resting (part ∷ []), [])) };
+    ghost invariant = { λ p. (standing : Standing S.Item) × (p.seat.me ≡ (resting (standing ∷ []), [])) };
 }

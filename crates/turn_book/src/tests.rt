@@ -80,9 +80,7 @@ fn look<R: Wait>(rt: &R, book: &Book<Notes>, pass: Pass<Notes>) -> (Pass<Notes>,
 }
 
 // A book with two passes, the first of them in front.
-fn two_passes(
-    alloc: Global,
-) -> Result<Option<(Book<Notes>, Pass<Notes>, Pass<Notes>)>, Memory>
+fn two_passes(alloc: Global) -> Result<Option<(Book<Notes>, Pass<Notes>, Pass<Notes>)>, Memory>
     ensures { IfOk result (λ r. IfSome r (λ r. (r.1 ≡ new_pass r.0 0) × (r.2 ≡ new_pass r.0 1))) }
 {
     let (book, passes) = Book::new(alloc, Notes::new(alloc), 2)?;

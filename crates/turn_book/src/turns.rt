@@ -6,7 +6,7 @@ use std::collections::LinkedList;
 use std::snapshot::Snapshot;
 
 /// What is known of a pass. No value of it is made.
-pub struct Part<I> {
+pub struct Standing<I> {
     pub number: u32,
     pub opening: LinkedList<u32>,
     pub seen: LinkedList<Made<I>>,
@@ -17,7 +17,7 @@ pub struct Part<I> {
 /// What a seat knows: the passes that it has, and while it has the state the history that it found
 /// there. No value of it is made.
 pub struct View<I> {
-    pub parts: LinkedList<Part<I>>,
+    pub standings: LinkedList<Standing<I>>,
     pub found: Option<LinkedList<Made<I>>>,
 }
 
@@ -78,8 +78,8 @@ impl<I> Join<View<I>> for AllPasses {
     ghost spent = { spent };
 }
 
-pub type Top<S> = Shared<Option<S>, View<<S as Kept>::Item>, Start<S>, Turns>;
+pub type SharedTable<S> = Shared<Option<S>, View<<S as Kept>::Item>, Start<S>, Turns>;
 
-pub type Place<S> = Seat<Option<S>, View<<S as Kept>::Item>>;
+pub type BookSeat<S> = Seat<Option<S>, View<<S as Kept>::Item>>;
 
-pub type Root<S> = Table<Option<S>, View<<S as Kept>::Item>, Start<S>, Turns, Global>;
+pub type BookTable<S> = Table<Option<S>, View<<S as Kept>::Item>, Start<S>, Turns, Global>;

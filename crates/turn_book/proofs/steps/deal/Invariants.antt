@@ -5,7 +5,7 @@ use Rattle.turn_book.proofs.steps.deal.Given as goal
 
 abbrev pub invariant-loop-number : goal.invariant-loop-number
 invariant-loop-number g l = record {
-  table : l.place.table_id ≡ l.top.table_id;
-  rests : l.place.me ≡ (resting (drop l._number (newcomers (g.S.Kept.opening l.top.key.state.value) l.passes).parts), []);
-  dealt : l.dealt ≡ map (pass_of l.top.table_id) (take l._number (newcomers (g.S.Kept.opening l.top.key.state.value) l.passes).parts);
+  table : l.seat.table_id ≡ l.table.table_id;
+  rests : l.seat.me ≡ (resting (drop l._number (newcomers (g.S.Kept.opening l.table.key.state.value) l.passes).standings), []);
+  dealt : l.dealt ≡ map (pass_of l.table.table_id) (take l._number (newcomers (g.S.Kept.opening l.table.key.state.value) l.passes).standings);
 }

@@ -5,10 +5,10 @@ use Rattle.turn_book.proofs.steps.gather.Given as goal
 
 abbrev pub invariant-loop-pass : goal.invariant-loop-pass
 invariant-loop-pass g l = record {
-  table : l.place.table_id ≡ l.top.table_id;
-  rests : l.place.me ≡ (resting l.place.me.0.parts, []);
-  of_book : AllOf l.top.table_id l.left.items;
-  passes : l.left.items ++ map (pass_of l.top.table_id) l.place.me.0.parts ≡ l.fn.passes;
+  table : l.seat.table_id ≡ l.table.table_id;
+  rests : l.seat.me ≡ (resting l.seat.me.0.standings, []);
+  of_book : AllOf l.table.table_id l.left.items;
+  passes : l.left.items ++ map (pass_of l.table.table_id) l.seat.me.0.standings ≡ l.fn.passes;
 }
 
 abbrev pub decreases-loop-pass : goal.decreases-loop-pass
