@@ -1,24 +1,24 @@
 -- The steps of seats keep the rule.
-use Rattle.std.proofs.Common.{◌≡◌, ◌≢◌, ℕ, zero, suc, ◌+◌, ◌<◌, Bool, true, false, List, [], ◌∷◌, ◌++◌, length, map, get_or, Option, Some, None, refl, ap, sym, ◌∙◌, subst, arith, inl, inr}
+use Rattle.std.proofs.Common.{◌≡◌, ◌≢◌, ℕ, ◌<◌, Bool, true, false, List, [], ◌∷◌, ◌++◌, length, map, get_or, Option, Some, None, refl, ap, sym, ◌∙◌, subst, arith, inl, inr}
 use Rattle.std.specs.Prelude.{All, IsPermutation, ◌⊎◌, ◌==◌, slice_index, slice_set, nat_eq}
 use Rattle.std.specs.List.{range_with_len}
 use Rattle.std.proofs.lemmas.List.{length-map, get_or-map}
 use Rattle.std.proofs.lemmas.List.Sorted.{IsPermutation-trans}
-use Rattle.std.proofs.lemmas.List.Elements.{All-nil, All-cons, All-head, All-tail, All-append, All-weaker}
+use Rattle.std.proofs.lemmas.List.Elements.{All-nil, All-cons, All-head, All-append}
 use Rattle.std.proofs.lemmas.Bool.Decides.{nat_tests}
 use mathlib.Core.Option.{some, none, some-injective}
 use mathlib.Core.Option as maybe
 use lib.ListN.{get_elem?}
 use prog.Atomic.{either}
-use Rattle.atomic_table.specs.Table.{State, Me, Step, Act, keeps, takes, gives, rest, Valid, Allows, Splits, Joins, stepped, homes_after, carried_after}
-use Rattle.atomic_table.proofs.Lists.{at_set, at_snoc, set_here, set_again}
+use Rattle.atomic_table.specs.Table.{State, Me, Step, Act, keeps, takes, gives, rest, Valid, Allows, stepped, carried_after}
+use Rattle.atomic_table.proofs.Lists.{at_set, set_here, set_again}
 use Rattle.turn_book.specs.declared.kept.Made.{Made}
 use Rattle.turn_book.specs.declared.turns.Standing.{Standing}
 use Rattle.turn_book.specs.declared.turns.View.{View}
 use Rattle.turn_book.specs.Entries.{entries_of}
-use Rattle.turn_book.specs.Turns.{Follows, Knows, AtHome, IsOut, IsKept, Took, takes_then, Gave, gives_then, resting, holding, spent, both_views, standing_of, found_of, after_hold, numbers_of}
-use Rattle.turn_book.proofs.Histories.{whole, follows_more, follows_after, passes-entries_of}
-use Rattle.turn_book.proofs.Numbers.{same_left, same_right, others_differ, numbers_of-kept, numbers_of-split, numbers_of-joined, two_first, within}
+use Rattle.turn_book.specs.Turns.{Follows, IsPassIn, AtHome, IsOut, IsKept, Took, takes_then, gives_then, resting, holding, spent, standing_of, found_of, after_hold, numbers_of}
+use Rattle.turn_book.proofs.Histories.{follows_more, follows_after, passes-entries_of}
+use Rattle.turn_book.proofs.Numbers.{same_right, others_differ, numbers_of-kept, two_first, within}
 
 number_same : (a b : ℕ) → (a ≡ b) ⊎ (a ≢ b)
 number_same a b = by_test (nat_eq a b) refl
@@ -35,7 +35,7 @@ module _ {S I : Type 0} (opening_of : S → List ℕ) (history_of : S → List (
   Kept = IsKept opening_of history_of opening passes
 
   abbrev Known : List (Made I) → List (View I) → Type 0
-  Known hist views = (j : ℕ) (v : View I) → get_elem? views j ≡ some v → All (Knows opening passes hist) v.standings
+  Known hist views = (j : ℕ) (v : View I) → get_elem? views j ≡ some v → All (IsPassIn opening passes hist) v.standings
 
   abbrev after_take : ℕ → ℕ
   after_take n = either (n == 0) 1 n
@@ -52,7 +52,7 @@ module _ {S I : Type 0} (opening_of : S → List ℕ) (history_of : S → List (
       ((j : ℕ) (u : View I) → get_elem? views j ≡ some u → u.found ≡ None) → opening_of y ≡ opening → get_elem? views id ≡ some (resting (p ∷ [])) →
       Goes id p st views (0 ∷ []) (some (Some y) ∷ [])
   take_home id p st views y entries given each home o there =
-      let mine : Knows opening passes (history_of y) p = All-head (Knows opening passes (history_of y)) p [] (each id (resting (p ∷ [])) there) in
+      let mine : IsPassIn opening passes (history_of y) p = All-head (IsPassIn opening passes (history_of y)) p [] (each id (resting (p ∷ [])) there) in
       let w : View I = holding p (history_of y) in (
         w,
         takes 0 (Some y),
@@ -62,7 +62,7 @@ module _ {S I : Type 0} (opening_of : S → List ℕ) (history_of : S → List (
           entries = entries;
           given = same_right (range_with_len 0 passes) (numbers_of views) (numbers_of (slice_set views id w)) (sym (numbers_of-kept views id (resting (p ∷ [])) w there refl)) given;
           each = λ j u k. elim (at_set views id j w u k) [
-            | inl e ↦ subst (λ (u : View I). All (Knows opening passes (history_of y)) u.standings) e.1 (each id (resting (p ∷ [])) there)
+            | inl e ↦ subst (λ (u : View I). All (IsPassIn opening passes (history_of y)) u.standings) e.1 (each id (resting (p ∷ [])) there)
             | inr e ↦ each j u e.1
           ];
           place = inr (record {
@@ -131,7 +131,7 @@ module _ {S I : Type 0} (opening_of : S → List ℕ) (history_of : S → List (
       GivesOn id p found y st record { words = 1 ∷ []; homes = none ∷ []; views = views }
   give_out id p found y items st views entries given each no_other there o is =
       let more : List (Made I) = entries_of p.number (length p.made) items in
-      let mine : Knows opening passes found p = All-head (Knows opening passes found) p [] (each id (holding p found) there) in
+      let mine : IsPassIn opening passes found p = All-head (IsPassIn opening passes found) p [] (each id (holding p found) there) in
       let w : View I = resting (after_hold p found (history_of y) ∷ []) in
       let parts_same : map (λ (q : Standing I). q.number) w.standings ≡ map (λ (q : Standing I). q.number) (p ∷ []) = refl in (
         w,
@@ -142,17 +142,17 @@ module _ {S I : Type 0} (opening_of : S → List ℕ) (history_of : S → List (
           entries = subst (All (λ (e : Made I). e.pass < passes)) (sym is) (All-append (λ (e : Made I). e.pass < passes) found more entries (passes-entries_of p.number (length p.made) passes items mine.number));
           given = same_right (range_with_len 0 passes) (numbers_of views) (numbers_of (slice_set views id w)) (sym (numbers_of-kept views id (holding p found) w there parts_same)) given;
           each = λ j u k. elim (at_set views id j w u k) [
-            | inl e ↦ subst (λ (u : View I). All (Knows opening passes (history_of y)) u.standings) e.1
-                (All-cons (Knows opening passes (history_of y)) (after_hold p found (history_of y)) []
+            | inl e ↦ subst (λ (u : View I). All (IsPassIn opening passes (history_of y)) u.standings) e.1
+                (All-cons (IsPassIn opening passes (history_of y)) (after_hold p found (history_of y)) []
                 (record {
                   number = mine.number;
                   opening_is = mine.opening_is;
                   follows = subst (λ (h : List (Made I)). Follows h (after_hold p found h)) (sym is) (follows_after found p items mine.follows);
                 })
-                (All-nil (Knows opening passes (history_of y))))
+                (All-nil (IsPassIn opening passes (history_of y))))
             | inr e ↦ λ i d small.
                 let q : Standing I = get_or u.standings i d in
-                let old : Knows opening passes found q = each j u e.1 i d small in
+                let old : IsPassIn opening passes found q = each j u e.1 i d small in
                 let apart : q.number ≢ p.number = differs j u e.1 e.0 i d small in
                 record {
                   number = old.number;

@@ -1,5 +1,5 @@
 -- What stands when one seat has all passes.
-use Rattle.std.proofs.Common.{◌≡◌, ◌≢◌, ℕ, suc, ◌+◌, ◌<◌, List, [], ◌∷◌, ◌++◌, length, map, Some, None, Option, refl, ap, sym, ◌∙◌, subst, arith, inl, inr, append_assoc}
+use Rattle.std.proofs.Common.{◌≡◌, ◌≢◌, ℕ, ◌<◌, List, [], ◌∷◌, ◌++◌, length, map, Some, None, Option, ap, sym, ◌∙◌, subst, arith, inl, inr}
 use Rattle.std.specs.Prelude.{All, Contains, IsPermutation, IsSome, is_some, ◌⊎◌, slice_set}
 use Rattle.std.specs.List.{range_with_len}
 use Rattle.std.proofs.lemmas.List.{append-nil, length-append, length-map, nil_from_length}
@@ -16,7 +16,7 @@ use Rattle.turn_book.specs.declared.kept.Made.{Made}
 use Rattle.turn_book.specs.declared.turns.Standing.{Standing}
 use Rattle.turn_book.specs.declared.turns.View.{View}
 use Rattle.turn_book.specs.Passes.{BookOf, PassOf, AreAll}
-use Rattle.turn_book.specs.Turns.{Knows, AtHome, IsOut, IsKept, Ends, resting, holding, spent, pass_of, numbers_of}
+use Rattle.turn_book.specs.Turns.{IsPassIn, AtHome, IsOut, IsKept, Ends, resting, holding, spent, pass_of, numbers_of}
 use Rattle.turn_book.proofs.Numbers.{nums, same_right, seat_first}
 
 module _ {S I : Type 0} (opening_of : S → List ℕ) (history_of : S → List (Made I)) (opening : List ℕ) (passes : ℕ) where
@@ -63,7 +63,7 @@ module _ {S I : Type 0} (opening_of : S → List ℕ) (history_of : S → List (
         record {
           opening_is = h.opening_is;
           given = all_given id standings s kept here all;
-          each = subst (λ (hist : List (Made I)). All (Knows opening passes hist) standings) (sym h.history_is) (kept.each id (resting standings) here);
+          each = subst (λ (hist : List (Made I)). All (IsPassIn opening passes hist) standings) (sym h.history_is) (kept.each id (resting standings) here);
           entries = subst (All (λ (e : Made I). e.pass < passes)) (sym h.history_is) kept.entries;
         },
       )
@@ -84,8 +84,8 @@ same_value {A} o x y a b = cc
 -- what the end shows of passes as contracts see them
 module _ {S I : Type 0} {opening_of : S → List ℕ} {history_of : S → List (Made I)} {opening : List ℕ} {count : ℕ} {standings : List (Standing I)} {passes : List (PassOf I)} {state : S}
     (table : TableId) (e : Ends opening_of history_of opening count standings state) (is : map (λ (p : Standing I). pass_of table p) standings ≡ passes) where
-  pub each_of : (P : PassOf I → Type 0) → ((p : Standing I) → Knows opening count (history_of state) p → P (pass_of table p)) → All P passes
-  each_of P known = subst (All P) is (All-map P (pass_of table) standings (All-weaker (Knows opening count (history_of state)) (λ (p : Standing I). P (pass_of table p)) known standings e.each))
+  pub each_of : (P : PassOf I → Type 0) → ((p : Standing I) → IsPassIn opening count (history_of state) p → P (pass_of table p)) → All P passes
+  each_of P known = subst (All P) is (All-map P (pass_of table) standings (All-weaker (IsPassIn opening count (history_of state)) (λ (p : Standing I). P (pass_of table p)) known standings e.each))
 
   numbers_are : map (λ (p : Standing I). p.number) standings ≡ map (λ (p : PassOf I). p.number) passes
   numbers_are = sym (map-map (λ (p : PassOf I). p.number) (pass_of table) standings) ∙ ap (map (λ (p : PassOf I). p.number)) is

@@ -1,5 +1,5 @@
 -- What the calls that deal passes and gather them show, over plain lists.
-use Rattle.std.proofs.Common.{◌≡◌, ◌≢◌, ℕ, zero, suc, ◌+◌, ◌<◌, ◌≤◌, List, [], ◌∷◌, ◌++◌, length, map, get_or, Some, None, Option, refl, ap, sym, ◌∙◌, subst, arith, inl, append_assoc}
+use Rattle.std.proofs.Common.{◌≡◌, ℕ, zero, suc, ◌+◌, ◌<◌, ◌≤◌, List, [], ◌∷◌, ◌++◌, length, map, get_or, Some, None, Option, refl, ap, sym, ◌∙◌, subst, arith, inl, append_assoc}
 use Rattle.std.specs.Prelude.{All, drop, take}
 use Rattle.std.specs.List.{range_with_len}
 use Rattle.std.proofs.lemmas.List.{append-nil, drop-drop, drop_more, map_push, take_all, take_more}
@@ -16,7 +16,7 @@ use Rattle.turn_book.specs.declared.kept.Made.{Made}
 use Rattle.turn_book.specs.declared.turns.Standing.{Standing}
 use Rattle.turn_book.specs.declared.turns.View.{View}
 use Rattle.turn_book.specs.Passes.{PassOf}
-use Rattle.turn_book.specs.Turns.{Knows, IsKept, newcomer, newcomers, resting, both_views, without_first, first_alone, standing_of, pass_of, numbers_of}
+use Rattle.turn_book.specs.Turns.{IsPassIn, IsKept, newcomer, newcomers, resting, both_views, without_first, first_alone, standing_of, pass_of, numbers_of}
 use Rattle.turn_book.proofs.Numbers.{same_right}
 
 module _ (I : Type 0) (opening : List ℕ) where
@@ -100,15 +100,15 @@ module _ {S I : Type 0} (opening_of : S → List ℕ) (history_of : S → List (
         place = inl (record { state = y; home = refl; word = refl; history_is = none; opening_is = o; none_out = λ j v k. unheld j v k });
       })
     where
-      knows : (n : ℕ) → n < passes → Knows {I = I} opening passes [] (newcomer opening n)
+      knows : (n : ℕ) → n < passes → IsPassIn {I = I} opening passes [] (newcomer opening n)
       knows n small = record { number = small; opening_is = refl; follows = record { seen = ([], refl); made = refl; numbered = refl; held = λ some_seen. absurd (some_seen refl) } }
 
-      all_known : All (Knows {I = I} opening passes []) (newcomers opening passes).standings
-      all_known = All-map (Knows opening passes []) (newcomer opening) (range_with_len 0 passes)
+      all_known : All (IsPassIn {I = I} opening passes []) (newcomers opening passes).standings
+      all_known = All-map (IsPassIn opening passes []) (newcomer opening) (range_with_len 0 passes)
           (λ i d small. let short = length-range_with_len 0 passes in knows (get_or (range_with_len 0 passes) i d) (rw (get_or-range_with_len 0 passes i d (omega arith)) (omega arith)))
 
-      only : (j : ℕ) (v : View I) → get_elem? (newcomers opening passes ∷ []) j ≡ some v → All (Knows opening passes []) v.standings
-      only zero v k = subst (λ (v : View I). All (Knows opening passes []) v.standings) (some-injective (newcomers opening passes) v k) all_known
+      only : (j : ℕ) (v : View I) → get_elem? (newcomers opening passes ∷ []) j ≡ some v → All (IsPassIn opening passes []) v.standings
+      only zero v k = subst (λ (v : View I). All (IsPassIn opening passes []) v.standings) (some-injective (newcomers opening passes) v k) all_known
       only (suc j) v k = absurd (cc)
 
       unheld : (j : ℕ) (v : View I) → get_elem? (newcomers opening passes ∷ []) j ≡ some v → v.found ≡ None

@@ -1,5 +1,5 @@
 -- Passes go from seat to seat, and the rule stays.
-use Rattle.std.proofs.Common.{◌≡◌, ◌≢◌, ℕ, ◌+◌, ◌<◌, List, [], ◌∷◌, ◌++◌, length, map, Some, None, Option, refl, ap, sym, ◌∙◌, subst, inl, inr}
+use Rattle.std.proofs.Common.{◌≡◌, ◌≢◌, ℕ, List, [], ◌∷◌, ◌++◌, Some, None, Option, refl, ap, sym, ◌∙◌, subst, inl, inr}
 use Rattle.std.specs.Prelude.{All, ◌⊎◌, slice_set}
 use Rattle.std.specs.List.{range_with_len}
 use Rattle.std.proofs.lemmas.List.Elements.{All-nil, All-cons, All-head, All-tail, All-append}
@@ -11,7 +11,7 @@ use Rattle.atomic_table.proofs.Lists.{at_set, at_snoc, at_longer, set_else}
 use Rattle.turn_book.specs.declared.kept.Made.{Made}
 use Rattle.turn_book.specs.declared.turns.Standing.{Standing}
 use Rattle.turn_book.specs.declared.turns.View.{View}
-use Rattle.turn_book.specs.Turns.{Knows, AtHome, IsOut, IsKept, resting, holding, spent, both_views, without_first, first_alone, numbers_of}
+use Rattle.turn_book.specs.Turns.{IsPassIn, AtHome, IsOut, IsKept, resting, holding, spent, both_views, without_first, first_alone, numbers_of}
 use Rattle.turn_book.proofs.Numbers.{numbers_of-split, numbers_of-joined}
 
 module _ {S I : Type 0} (opening_of : S → List ℕ) (history_of : S → List (Made I)) (opening : List ℕ) (passes : ℕ) where
@@ -42,7 +42,7 @@ module _ {S I : Type 0} (opening_of : S → List ℕ) (history_of : S → List (
       views = left ++ resting (p ∷ []) ∷ []
 
       Known : Standing I → Type 0
-      Known = Knows opening passes kept.hist
+      Known = IsPassIn opening passes kept.hist
 
       mine : All Known (p ∷ ps)
       mine = kept.each id (resting (p ∷ ps)) there
@@ -101,7 +101,7 @@ module _ {S I : Type 0} (opening_of : S → List ℕ) (history_of : S → List (
       views = slice_set (slice_set s.views id both) other spent
 
       Known : Standing I → Type 0
-      Known = Knows opening passes kept.hist
+      Known = IsPassIn opening passes kept.hist
 
       before : get_elem? s.views other ≡ some (resting qs)
       before = sym (set_else s.views id other both apart) ∙ here

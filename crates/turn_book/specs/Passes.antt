@@ -5,16 +5,20 @@ use Rattle.atomic_table.specs.Seated.{TableId}
 use Rattle.turn_book.specs.Entries.{entries_of}
 use Rattle.turn_book.specs.declared.kept.Made.{Made}
 
+-- what no other book has
+abbrev pub BookId : Type 0
+BookId = TableId
+
 -- which book it is, the opening of its state, and how many passes it gave out
 pub record BookOf : Type 0 where
-  pub id : TableId
+  pub id : BookId
   pub opening : List ℕ
   pub passes : ℕ
 
 -- which book it is of, its number and that book's opening, which never change; the beginning of the history that it has
 -- seen, the entries that it has made, and how many of its holds have ended
 pub record PassOf (I : Type 0) : Type 0 where
-  pub book : TableId
+  pub book : BookId
   pub number : ℕ
   pub opening : List ℕ
   pub seen : List (Made I)
@@ -55,6 +59,7 @@ module _ {I : Type 0} where
   abbrev pub AddsOwn : PassOf I → List (Made I) → List (Made I) → Type 0
   AddsOwn pass found history = (items : List I) × (history ≡ found ++ entries_of pass.number (length pass.made) items)
 
+  -- they are passes of this book
   abbrev pub AreOf : BookOf → List (PassOf I) → Type 0
   AreOf book passes = All (λ (p : PassOf I). p.book ≡ book.id) passes
 

@@ -6,7 +6,7 @@ use lib.ListN.{get_elem?}
 use Rattle.atomic_table.specs.Table.{State, Me, Step}
 use Rattle.atomic_table.specs.Seated.{TableId}
 use Rattle.turn_book.specs.Entries.{IsPrefixOf, made_by, entries_of}
-use Rattle.turn_book.specs.Passes.{PassOf}
+use Rattle.turn_book.specs.Passes.{BookId, PassOf}
 use Rattle.turn_book.specs.declared.kept.Made.{Made}
 use Rattle.turn_book.specs.declared.turns.Standing.{Standing}
 use Rattle.turn_book.specs.declared.turns.View.{View}
@@ -20,10 +20,11 @@ module _ {I : Type 0} where
   abbrev pub holding : Standing I → List (Made I) → View I
   holding standing found = record { standings = standing ∷ []; found = Some found }
 
+  -- a pass before its first hold
   abbrev pub newcomer : List ℕ → ℕ → Standing I
   newcomer opening number = record { number = number; opening = opening; seen = []; made = []; holds = 0 }
 
-  -- the passes with the numbers below this one, before their first hold
+  -- the view of a seat with all passes, whose numbers are those below this one
   abbrev pub newcomers : List ℕ → ℕ → View I
   newcomers opening passes = resting (map (newcomer opening) (range_with_len 0 passes))
 
@@ -45,21 +46,23 @@ module _ {I : Type 0} where
   found_of v = unwrap_or v.found []
 
   -- a pass as contracts see it
-  abbrev pub pass_of : TableId → Standing I → PassOf I
+  abbrev pub pass_of : BookId → Standing I → PassOf I
   pass_of book p = record { book = book; number = p.number; opening = p.opening; seen = p.seen; made = p.made; holds = p.holds }
 
   -- the numbers of all passes, seat by seat
   abbrev pub numbers_of : List (View I) → List ℕ
   numbers_of views = flat_map (λ (v : View I). map (λ (p : Standing I). p.number) v.standings) views
 
-  -- what a pass has in a history
+  -- The history begins with what the pass has seen, and its entries of this pass are those that the pass made, numbered from 0.
+  -- What a pass has seen it saw in a hold
   pub record Follows (hist : List (Made I)) (p : Standing I) : Type 0 where
     pub seen : IsPrefixOf p.seen hist
     pub made : made_by p.number hist ≡ p.made
     pub numbered : p.made ≡ entries_of p.number 0 (map (λ (e : Made I). e.item) p.made)
     pub held : p.seen ≢ [] → 0 < p.holds
 
-  pub record Knows (opening : List ℕ) (passes : ℕ) (hist : List (Made I)) (p : Standing I) : Type 0 where
+  -- a pass that was given out, with this opening, which follows the history
+  pub record IsPassIn (opening : List ℕ) (passes : ℕ) (hist : List (Made I)) (p : Standing I) : Type 0 where
     pub number : p.number < passes
     pub opening_is : p.opening ≡ opening
     pub follows : Follows hist p
@@ -88,7 +91,7 @@ module _ {S I : Type 0} (opening_of : S → List ℕ) (history_of : S → List (
     pub hist : List (Made I)
     pub entries : All (λ (e : Made I). e.pass < passes) hist
     pub given : IsPermutation (range_with_len 0 passes) (numbers_of s.views)
-    pub each : (j : ℕ) (v : View I) → get_elem? s.views j ≡ maybe.some v → All (Knows opening passes hist) v.standings
+    pub each : (j : ℕ) (v : View I) → get_elem? s.views j ≡ maybe.some v → All (IsPassIn opening passes hist) v.standings
     pub place : AtHome opening hist s ⊎ IsOut hist s
 
   -- the seat has the state, which stands where the pass may follow it
@@ -135,5 +138,5 @@ IsLaidOut table = (table.words ≡ 1) × (table.slots ≡ 1)
 pub record Ends {S I : Type 0} (opening_of : S → List ℕ) (history_of : S → List (Made I)) (opening : List ℕ) (passes : ℕ) (standings : List (Standing I)) (state : S) : Type 0 where
   pub opening_is : opening_of state ≡ opening
   pub given : IsPermutation (range_with_len 0 passes) (map (λ (p : Standing I). p.number) standings)
-  pub each : All (Knows opening passes (history_of state)) standings
+  pub each : All (IsPassIn opening passes (history_of state)) standings
   pub entries : All (λ (e : Made I). e.pass < passes) (history_of state)

@@ -11,7 +11,8 @@ use std::marker::Model;
 use std::snapshot::Snapshot;
 use std::sync::Wait;
 
-/// A state that one pass at a time may change.
+/// A state that one pass at a time may change. Threads share it by reference. Contracts see which
+/// book it is, the opening of its state, and how many passes it has.
 #[derive(Drop)]
 pub struct Book<S: Kept> {
     pub(crate) table: BookTable<S>,
@@ -33,8 +34,8 @@ impl<S: Kept + Drop> Book<S> {
     ghost use Rattle.std.specs.Prelude.{◌≡◌, ◌<◌, [], IfOk};
     ghost use Rattle.turn_book.specs.Passes.{new_passes};
 
-    /// A book of this state, and its passes in the order of their numbers, from 0. A refused call
-    /// drops the state.
+    /// A book of this state, which has no history yet, and its passes in the order of their numbers,
+    /// counted from 0. There is at least one. `Memory` is want of memory alone, and drops the state.
     pub fn new(alloc: Global, state: S, passes: u32) -> Result<(Book<S>, Seq<Pass<S>>), Memory>
         requires some { 0 < passes }
         requires empty { S.history state ≡ [] }
@@ -61,7 +62,8 @@ impl<S: Kept> Book<S> {
     ghost use Rattle.turn_book.specs.Entries.{IsPrefixOf, made_by, entries_of};
     ghost use Rattle.turn_book.specs.Passes.{AreOf, AreAll};
 
-    /// Waits until no other pass has the state, and takes it.
+    /// Takes the state as soon as no other pass has it; until then the thread sleeps. The pass has to
+    /// be one of this book. It takes no memory.
     pub fn enter<R: Wait>(&self, rt: &R, pass: Pass<S>) -> Held<'_, S>
         requires { pass.book ≡ self.now.id }
         ensures pass { result.pass ≡ pass }
@@ -81,7 +83,9 @@ impl<S: Kept> Book<S> {
         }
     }
 
-    /// Ends a book whose passes are all there. Otherwise the book and the passes come back.
+    /// Ends a book whose passes are all there, in any order: their numbers are those that the book
+    /// gave out, each once. The passes have to be of this book. Exactly where not all are there, the
+    /// book and the passes come back. It takes no memory.
     pub fn close(self, passes: Seq<Pass<S>>) -> Result<Closed<S>, Unclosed<S>>
         requires { AreOf self passes }
         ensures all { OnOk result (AreAll self passes) }

@@ -6,7 +6,8 @@ use ss_base::Seq;
 use std::marker::Model;
 use std::snapshot::Snapshot;
 
-/// The state of a closed book. Contracts see with it how many holds each pass had.
+/// The state of a closed book, which `Book::close` alone makes. Contracts see with it the number of
+/// each pass beside how many holds it had, in the order in which the passes were brought.
 #[derive(Drop)]
 pub struct Closed<S: Kept> {
     pub(crate) state: S,
@@ -22,7 +23,7 @@ impl<S: Kept> Model for Closed<S> {
     ghost view = { λ c. record { state = c.state; holds = map (λ p. (p.number, p.holds)) c.last.value.me.0.standings } };
 }
 
-/// A book that was not closed, since not all of its passes were there, and those that were.
+/// A book that wasn't closed, and the passes that were there.
 #[derive(Drop)]
 pub struct Unclosed<S: Kept> {
     pub book: Book<S>,
@@ -32,6 +33,7 @@ pub struct Unclosed<S: Kept> {
 impl<S: Kept> Closed<S> {
     ghost use Rattle.std.specs.Prelude.{◌≡◌};
 
+    /// The state. It takes no memory.
     pub fn state(&self) -> &S
         ensures { result.now ≡ self.now.state }
     {

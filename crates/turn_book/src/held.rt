@@ -5,7 +5,8 @@ use crate::steps::give;
 use crate::turns::BookSeat;
 use std::marker::Model;
 
-/// The state of a book, for the pass that entered. It has to be left, and is never dropped.
+/// The state of a book, which the pass that entered has until it leaves. It can't be dropped.
+/// Contracts see the pass as it entered, the history that it found, and the state as it is now.
 pub struct Held<'a, S: Kept> {
     pub(crate) book: &'a Book<S>,
     pub(crate) seat: BookSeat<S>,
@@ -41,7 +42,10 @@ impl<'a, S: Kept> Held<'a, S> {
         &mut self.state
     }
 
-    /// Gives the state back to the book, for the next pass that enters.
+    /// Gives the state back to the book and wakes a thread that waits for it, if there is one. The
+    /// opening has to be the pass's, and the history the one that was found, followed by entries of
+    /// this pass alone, whose numbers go on from those of its earlier ones. It takes no memory, and
+    /// costs a call of the system.
     pub fn leave(self) -> Pass<S>
         requires opening { S.opening self.state ≡ self.pass.opening }
         requires adds { AddsOwn self.pass self.found (S.history self.state) }

@@ -1,21 +1,24 @@
 ghost use Rattle.std.specs.Prelude.{◌≡◌, ℕ, List, length};
 
-/// An entry of a history: the number of the pass that made it, its number among the entries of that
-/// pass, counted from 0, and what was made.
-#[derive(Drop)]
+/// An entry of a history.
+#[derive(Debug, Drop)]
 pub struct Made<I> {
+    /// The number of the pass that made it.
     pub pass: u32,
+    /// Its number among the entries of that pass, counted from 0.
     pub number: u32,
     pub item: I,
 }
 
-/// A state that knows its history.
+/// A state that knows its history. Contracts see the history as the list of its entries, the oldest
+/// first, and with it an opening, which says what the state was when the history began.
 pub trait Kept {
     ghost use Rattle.turn_book.specs.declared.kept.Made.{Made};
 
+    /// What an entry is of.
     type Item;
 
-    /// A list of numbers that never changes.
+    // A list of numbers, which stays the same from hold to hold.
     ghost opening: { Self → List ℕ };
 
     ghost history: { Self → List (Made Self.Item) };

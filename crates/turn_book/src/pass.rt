@@ -2,8 +2,9 @@ use crate::kept::Kept;
 use crate::turns::BookSeat;
 use std::marker::Model;
 
-/// The right of one thread to enter a book, with what it has seen and made there. It has no bytes.
-/// A pass that is dropped leaves a book that is never closed.
+/// The right to enter a book. It has no bytes, and may go from thread to thread. Contracts see its
+/// number, the opening of its book, the beginning of the history that it has seen, the entries that
+/// it made, and how many of its holds have ended. A book of which a pass was dropped can't be closed.
 #[derive(Drop)]
 pub struct Pass<S: Kept> {
     pub(crate) seat: BookSeat<S>,

@@ -1,11 +1,14 @@
-//! The table below a book: one word, and one slot for the state.
+//! The table below a book. Its one slot has the state while no pass has it, and its one word says so:
+//! 0 where the state is at home, and 1 where a pass has it. Four kinds of step touch it: a pass gets a
+//! seat of its own, takes the state, gives it back, and goes to another seat.
 use crate::kept::{Kept, Made};
 use atomic_table::{Join, Play, Seat, Shared, Split, Table, TableRule};
 use std::alloc::Global;
 use std::collections::LinkedList;
 use std::snapshot::Snapshot;
 
-/// What is known of a pass. No value of it is made.
+/// What is known of a pass: its number, the opening of the state, the history that it has seen, the
+/// entries that it made, and how many holds it had. No value of it is made.
 pub struct Standing<I> {
     pub number: u32,
     pub opening: LinkedList<u32>,
@@ -28,6 +31,7 @@ pub struct Start<S> {
     pub passes: u32,
 }
 
+/// The rule that every step keeps.
 pub struct Turns;
 
 impl<S: Kept> TableRule<Option<S>, View<S::Item>, Start<S>> for Turns {
@@ -56,7 +60,7 @@ impl<S: Kept> Play<Option<S>, View<S::Item>> for Give {
     ghost then = { gives_then S.history };
 }
 
-/// A new seat gets the first pass.
+/// A new seat gets the first of the passes.
 pub struct FirstPass;
 
 impl<I> Split<View<I>> for FirstPass {

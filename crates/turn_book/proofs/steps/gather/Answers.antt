@@ -1,5 +1,5 @@
 use Rattle.std.proofs.Common.{arith, ◌++◌, map, ap, sym, ◌∙◌}
-use Rattle.turn_book.specs.Turns.{resting, standing_of, pass_of}
+use Rattle.turn_book.specs.Turns.{standing_of, pass_of}
 use Rattle.turn_book.proofs.Dealing.{gathered, got_one, last_of, rests_again}
 use Rattle.turn_book.proofs.Handing.{join_at}
 use Rattle.turn_book.proofs.steps.gather.Goals as goal

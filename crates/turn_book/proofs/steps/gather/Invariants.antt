@@ -1,4 +1,4 @@
-use Rattle.std.proofs.Common.{◌≡◌, ◌++◌, [], map, All}
+use Rattle.std.proofs.Common.{◌≡◌, ◌++◌, [], map}
 use Rattle.turn_book.specs.Turns.{resting, pass_of}
 use Rattle.turn_book.proofs.Dealing.{AllOf}
 use Rattle.turn_book.proofs.steps.gather.Given as goal
