@@ -1,0 +1,3 @@
+mod Floors
+mod Joined
+mod Steps
