@@ -1,3 +1,6 @@
+mod Counting
 mod Floors
+mod Found
 mod Joined
+mod Shapes
 mod Steps

@@ -81,5 +81,12 @@ item_number (direct v) = Some (number_of v)
 abbrev pub sheet_numbers : List Value → Result (List ℤ) CalcErr
 sheet_numbers vs = all_of (filter_map sheet_number vs)
 
+abbrev pub item_numbers : List Item → Result (List ℤ) CalcErr
+item_numbers is = all_of (filter_map item_number is)
+
 abbrev pub numbers : Environment → List Arg → Result (List ℤ) CalcErr
-numbers E args = all_of (filter_map item_number (items_of_all E args))
+numbers E args = item_numbers (items_of_all E args)
+
+-- some numbers, and others behind them
+abbrev pub appended : List ℤ → Result (List ℤ) CalcErr → Result (List ℤ) CalcErr
+appended ns r = and_then r (λ more. Ok (ns ++ more))

@@ -8,5 +8,6 @@ pub mod Places
 pub mod Scalars
 pub mod Texts
 pub mod Lists
+pub mod Counts
 pub mod Tables
 pub mod Calls

@@ -1,6 +1,6 @@
-ghost use Rattle.std.specs.Prelude.{◌≡◌, ◌<◌, Ok, Err, length, MatchResult};
+ghost use Rattle.std.specs.Prelude.{◌≡◌, ◌<◌, ◌≤◌, Ok, Some, length, slice_get};
 ghost use Rattle.funcs.specs.Areas.{area, items, width, item_at};
-ghost use Rattle.funcs.specs.Refs.{owned};
+ghost use Rattle.funcs.specs.Refs.{owned, owned_result};
 
 use crate::arg::Arg;
 use crate::value_ref::ValueRef;
@@ -81,5 +81,32 @@ impl<'a, L: Look> Area<'a, L> {
             Place::Cell(v) => v,
             Place::Range(span) => ValueRef::seen(self.look.part(span, row, col)),
         }
+    }
+
+    /// How many items there are.
+    pub(crate) fn count(&self) -> usize
+        ensures count { result ≡ length (items self.now) }
+        ensures few { result ≤ 256000000 }
+    {
+        self.shape.rows as usize * self.shape.cols as usize
+    }
+
+    /// An item, by its place row by row, counted from 0.
+    pub(crate) fn item(&self, i: usize) -> ValueRef<'a>
+        requires { i < length (items self.now) }
+        ensures { slice_get (items self.now) i ≡ Some (owned result) }
+    {
+        let cols = self.shape.cols as usize;
+        self.at((i / cols) as u32, (i % cols) as u32)
+    }
+
+    /// The item in a row and a column, counted from 0, and `#REF!` outside the shape.
+    pub(crate) fn get(&self, row: usize, col: usize) -> Result<ValueRef<'a>, CalcErr>
+        ensures { owned_result result ≡ item_at self.now row col }
+    {
+        if row < self.shape.rows as usize && col < self.shape.cols as usize {
+            return Ok(self.at(row as u32, col as u32));
+        }
+        Err(CalcErr::Lost)
     }
 }

@@ -6,6 +6,7 @@
 mod area;
 mod arg;
 mod arity;
+mod list;
 mod number;
 mod scalar;
 mod stop;
