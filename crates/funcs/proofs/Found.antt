@@ -14,22 +14,29 @@ use Rattle.funcs.specs.declared.arg.Arg.TheVariants as arg
 use Rattle.funcs.specs.Steps.{and_then, all_of}
 use Rattle.funcs.specs.Areas.{Item, sheet, area, items, sheet_items, items_of, items_of_all, item_number, item_numbers, sheet_number, sheet_numbers, appended}
 
-appended-more : (ns : List ℤ) (n : ℤ) (r : Result (List ℤ) CalcErr) → appended ns (and_then r (λ more. Ok (n ∷ more))) ≡ appended (ns ++ n ∷ []) r
-appended-more ns n (Ok more) = λ i. Ok (sym (append_assoc ns (n ∷ []) more) i)
-appended-more ns n (Err e) = refl
+pub appended-more : {A : Type 0} (xs : List A) (x : A) (r : Result (List A) CalcErr) → appended xs (and_then r (λ more. Ok (x ∷ more))) ≡ appended (xs ++ x ∷ []) r
+appended-more xs x (Ok more) = λ i. Ok (sym (append_assoc xs (x ∷ []) more) i)
+appended-more xs x (Err e) = refl
 
 -- some results, and others after them
-appended-both : (ns : List ℤ) (rs ss : List (Result ℤ CalcErr)) → appended ns (all_of (rs ++ ss)) ≡ and_then (appended ns (all_of rs)) (λ more. appended more (all_of ss))
-appended-both ns [] ss = ap (λ (ms : List ℤ). appended ms (all_of ss)) (sym (append-nil ns))
-appended-both ns (Ok n ∷ rs) ss =
-    appended-more ns n (all_of (rs ++ ss))
-    ∙ (appended-both (ns ++ n ∷ []) rs ss
-    ∙ ap (λ (r : Result (List ℤ) CalcErr). and_then r (λ more. appended more (all_of ss))) (sym (appended-more ns n (all_of rs))))
-appended-both ns (Err e ∷ rs) ss = refl
+pub appended-both : {A : Type 0} (xs : List A) (rs ss : List (Result A CalcErr)) → appended xs (all_of (rs ++ ss)) ≡ and_then (appended xs (all_of rs)) (λ more. appended more (all_of ss))
+appended-both {A} xs [] ss = ap (λ (ms : List A). appended ms (all_of ss)) (sym (append-nil xs))
+appended-both {A} xs (Ok x ∷ rs) ss =
+    appended-more xs x (all_of (rs ++ ss))
+    ∙ (appended-both (xs ++ x ∷ []) rs ss
+    ∙ ap (λ (r : Result (List A) CalcErr). and_then r (λ more. appended more (all_of ss))) (sym (appended-more xs x (all_of rs))))
+appended-both xs (Err e ∷ rs) ss = refl
 
-pub appended-none : (r : Result (List ℤ) CalcErr) → appended [] r ≡ r
-appended-none (Ok ns) = refl
+pub appended-none : {A : Type 0} (r : Result (List A) CalcErr) → appended [] r ≡ r
+appended-none (Ok xs) = refl
 appended-none (Err e) = refl
+
+-- none left
+pub appended_end : {A B : Type 0} (f : List B → List (Result A CalcErr)) (none : f [] ≡ []) (found : List A) (bs : List B) (i : ℕ) → length bs ≤ i → appended found (all_of (f (drop i bs))) ≡ Ok found
+appended_end {A} {B} f none found bs i h =
+    ap (λ (cs : List B). appended found (all_of (f cs))) (drop_all i bs h)
+    ∙ (ap (λ (rs : List (Result A CalcErr)). appended found (all_of rs)) none
+    ∙ (λ j. Ok (append-nil found j)))
 
 module _ {A : Type 0} (h : A → Option (Result ℤ CalcErr)) where
   -- the numbers of some items, and of others after them

@@ -4,3 +4,4 @@ mod Found
 mod Joined
 mod Shapes
 mod Steps
+mod Walks

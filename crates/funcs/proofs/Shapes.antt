@@ -76,6 +76,7 @@ shaped (r ∷ rows) (c ∷ cols) shape e = (let z : shape.rows ≡ length (r ∷
 
 pub record IsShape (vs : List (List Value)) (shape : Size) : Type 0 where
   pub rows : length vs ≡ shape.rows
+  pub cols : width vs ≡ shape.cols
   pub some_cols : 0 < shape.cols
   pub count : length (items vs) ≡ shape.rows * shape.cols
   pub item : (i j : ℕ) → j < shape.cols → slice_get (items vs) (i * shape.cols + j) ≡ option_and_then (λ (r : List Value). slice_get r j) (slice_get vs i)
@@ -83,7 +84,7 @@ pub record IsShape (vs : List (List Value)) (shape : Size) : Type 0 where
 
 -- a single cell
 alone : (v : Value) → IsShape ((v ∷ []) ∷ []) (record { rows = 1; cols = 1 })
-alone v = record { rows = refl; some_cols = omega arith; count = refl; item = item; past = past }
+alone v = record { rows = refl; cols = refl; some_cols = omega arith; count = refl; item = item; past = past }
   where
     item : (i j : ℕ) → j < 1 → slice_get (v ∷ []) (i * 1 + j) ≡ option_and_then (λ (r : List Value). slice_get r j) (slice_get ((v ∷ []) ∷ []) i)
     item zero zero h = refl
@@ -105,12 +106,21 @@ row_end f cols (r ∷ rows) zero j h = slice_get_past (map (λ c. f r c) cols) j
     along (c ∷ cs) = ap suc (along cs)
 row_end f cols (r ∷ rows) (suc i) j h = row_end f cols rows i j h
 
+first_width : (f : ℕ → ℕ → Value) (cols rows : List ℕ) → 0 < length rows → width (map (λ r. map (λ c. f r c) cols) rows) ≡ length cols
+first_width f cols [] h = absurd (omega arith)
+first_width f cols (r ∷ rows) h = along cols
+  where
+    along : (cs : List ℕ) → length (map (λ c. f r c) cs) ≡ length cs
+    along [] = refl
+    along (c ∷ cs) = ap suc (along cs)
+
 pub is_shape : (E : Environment) (at : Place) (shape : Size) → HasShape E at shape → IsShape (values_of E at) shape
 is_shape E (place.Cell v) shape h = subst (λ (s : Size). IsShape ((owned v ∷ []) ∷ []) s) (sym h) (alone (owned v))
 is_shape E (place.Range s) shape h =
     let (rows, cols, some_rows, some_cols) = shaped (E.rows s.now) (E.cols s.now) shape h in
     record {
       rows = length-rows E.value (E.cols s.now) (E.rows s.now) ∙ sym rows;
+      cols = first_width E.value (E.cols s.now) (E.rows s.now) some_rows ∙ sym cols;
       some_cols = omega (arith, cols, some_cols);
       count = length-items E.value (E.cols s.now) (E.rows s.now) ∙ (λ i. sym rows i * sym cols i);
       item = λ i j k. ap (λ (w : ℕ). slice_get (items (range_values E s.now)) (i * w + j)) cols ∙ item E.value (E.cols s.now) (E.rows s.now) i j (let l : j < length (E.cols s.now) = omega (arith, cols, k) in l);

@@ -87,6 +87,6 @@ item_numbers is = all_of (filter_map item_number is)
 abbrev pub numbers : Environment → List Arg → Result (List ℤ) CalcErr
 numbers E args = item_numbers (items_of_all E args)
 
--- some numbers, and others behind them
-abbrev pub appended : List ℤ → Result (List ℤ) CalcErr → Result (List ℤ) CalcErr
-appended ns r = and_then r (λ more. Ok (ns ++ more))
+-- what was found, and what comes behind it
+abbrev pub appended : {A : Type 0} → List A → Result (List A) CalcErr → Result (List A) CalcErr
+appended found r = and_then r (λ more. Ok (found ++ more))

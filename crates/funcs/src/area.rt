@@ -1,4 +1,4 @@
-ghost use Rattle.std.specs.Prelude.{◌≡◌, ◌<◌, ◌≤◌, Ok, Some, length, slice_get};
+ghost use Rattle.std.specs.Prelude.{◌≡◌, ◌*◌, ◌<◌, ◌≤◌, Ok, Some, length, slice_get};
 ghost use Rattle.funcs.specs.Areas.{area, items, width, item_at};
 ghost use Rattle.funcs.specs.Refs.{owned, owned_result};
 
@@ -60,7 +60,8 @@ impl<'a, L: Look> Area<'a, L> {
     }
 
     pub(crate) fn rows(&self) -> u32
-        ensures { result ≡ length self.now }
+        ensures rows { result ≡ length self.now }
+        ensures items { length (items self.now) ≡ length self.now * width self.now }
     {
         self.shape.rows
     }

@@ -10,6 +10,7 @@ mod list;
 mod number;
 mod scalar;
 mod stop;
+mod table;
 mod text;
 mod value_ref;
 

@@ -177,25 +177,27 @@ pub(crate) fn or<L: Look>(alloc: Global, args: &[Arg], look: &L) -> Result<Value
 
 /// Which items are counted.
 #[derive(Clone, Copy, Debug)]
-pub(crate) enum Counted {
+pub(crate) enum Counted<'a> {
     Numbers,
     Filled,
+    Same(ValueRef<'a>),
 }
 
-impl Counted {
+impl Counted<'_> {
     fn counts(self, v: ValueRef<'_>) -> bool
-        ensures { result ≡ counts self (owned v.entry) }
+        ensures { result ≡ counts self.entry (owned v.entry) }
     {
         match self {
             Counted::Numbers => matches!(v, ValueRef::Num(_)),
             Counted::Filled => !matches!(v, ValueRef::Empty),
+            Counted::Same(x) => v.is_same(x),
         }
     }
 }
 
 /// How many items of an area are counted.
-fn count_area<L: Look>(area: &Area<'_, L>, counted: Counted) -> u64
-    ensures count { result ≡ count_by (λ v. counts counted v) (items area.now) }
+pub(crate) fn count_area<L: Look>(area: &Area<'_, L>, counted: Counted<'_>) -> u64
+    ensures count { result ≡ count_by (λ v. counts counted.entry v) (items area.now) }
     ensures few { result ≤ 256000000 }
 {
     let mut count = 0;
@@ -206,8 +208,8 @@ fn count_area<L: Look>(area: &Area<'_, L>, counted: Counted) -> u64
 }
 
 /// How many items of an argument are counted.
-fn count_arg<L: Look>(arg: &Arg, look: &L, counted: Counted) -> u64
-    ensures count { result ≡ count_by (λ i. counts counted (item_value i)) (items_of (L.environment look.now) arg.now) }
+fn count_arg<L: Look>(arg: &Arg, look: &L, counted: Counted<'_>) -> u64
+    ensures count { result ≡ count_by (λ i. counts counted.entry (item_value i)) (items_of (L.environment look.now) arg.now) }
     ensures few { result ≤ 256000000 }
 {
     match arg {
@@ -220,9 +222,9 @@ fn count_arg<L: Look>(arg: &Arg, look: &L, counted: Counted) -> u64
 }
 
 /// How many items of some arguments are counted.
-pub(crate) fn count<L: Look>(args: &[Arg], look: &L, counted: Counted) -> Result<Value, CalcErr>
+pub(crate) fn count<L: Look>(args: &[Arg], look: &L, counted: Counted<'_>) -> Result<Value, CalcErr>
     requires { length args.now < 2 ^ 24 }
-    ensures { result ≡ counted_of counted (L.environment look.now) args.now }
+    ensures { result ≡ counted_of counted.entry (L.environment look.now) args.now }
 {
     one_or_more(args)?;
     let mut count = 0;

@@ -3,6 +3,7 @@ ghost use Rattle.ss_base.specs.declared.types.CalcErr.TheVariants as fault;
 ghost use Rattle.sheet_value.specs.declared.value.Value.TheVariants as value;
 ghost use Rattle.sheet_value.specs.Values.{number_of, text_of};
 ghost use Rattle.sheet_value.specs.Environment.{seen_value};
+ghost use Rattle.funcs.specs.Areas.{same};
 ghost use Rattle.funcs.specs.Refs.{owned};
 ghost use Rattle.funcs.specs.Stops.{Gives};
 
@@ -73,6 +74,17 @@ impl<'a> ValueRef<'a> {
             ValueRef::Num(n) => Ok(Value::Num(n)),
             ValueRef::Text(t) => Ok(Value::Text(t.copy()?)),
             ValueRef::Err(e) => Ok(Value::Err(e)),
+        }
+    }
+
+    /// Both numbers and equal, or both texts and equal.
+    pub(crate) fn is_same(self, x: ValueRef<'_>) -> bool
+        ensures { result ≡ same (owned self.entry) (owned x.entry) }
+    {
+        match (self, x) {
+            (ValueRef::Num(m), ValueRef::Num(n)) => m == n,
+            (ValueRef::Text(s), ValueRef::Text(t)) => s.bytes() == t.bytes(),
+            _ => false,
         }
     }
 }
