@@ -4,7 +4,7 @@ use Rattle.ss_base.specs.declared.types.CalcErr.{CalcErr}
 use Rattle.ss_base.specs.declared.types.CalcErr.TheVariants as fault
 use Rattle.sheet_value.specs.declared.value.Value.{Value}
 use Rattle.sheet_value.specs.declared.value.Value.TheVariants as value
-use Rattle.sheet_value.specs.Values.{number_of, text_of}
+use Rattle.sheet_value.specs.Values.{number_of, text_of, IsWithinLimit}
 use Rattle.sheet_value.specs.Environment.{Environment, cell_value, range_shape}
 use Rattle.funcs.specs.declared.arg.Arg.{Arg}
 use Rattle.funcs.specs.declared.arg.Arg.TheVariants as arg
@@ -79,3 +79,9 @@ criterion_of v = v
 
 abbrev pub criterion : Environment → Arg → Result Value CalcErr
 criterion E a = and_then (no_error (value_of E a)) (λ v. Ok (criterion_of v))
+
+-- each text that is given directly has at most 127 bytes
+abbrev pub AreWithinLimit : List Arg → Type 0
+AreWithinLimit [] = Unit {0}
+AreWithinLimit (arg.One v ∷ args) = IsWithinLimit v × AreWithinLimit args
+AreWithinLimit (a ∷ args) = AreWithinLimit args

@@ -6,6 +6,7 @@
 mod area;
 mod arg;
 mod arity;
+mod calls;
 mod list;
 mod number;
 mod scalar;
@@ -15,4 +16,9 @@ mod text;
 mod value_ref;
 
 pub use arg::Arg;
-
+pub use calls::{
+    abs_fn, and_fn, call, choose_fn, columns_fn, concatenate_fn, count_fn, counta_fn, countif_fn,
+    exact_fn, false_fn, if_fn, iferror_fn, index_fn, isblank_fn, iserror_fn, isna_fn, isnumber_fn,
+    istext_fn, left_fn, len_fn, match_fn, max_fn, mid_fn, min_fn, mod_fn, na_fn, not_fn, or_fn,
+    quotient_fn, right_fn, rows_fn, sign_fn, sum_fn, sumif_fn, sumproduct_fn, true_fn, vlookup_fn,
+};

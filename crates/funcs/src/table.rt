@@ -273,11 +273,7 @@ fn push_products<L: Look>(
 }
 
 /// The exact total of the products.
-fn product_total<L: Look>(
-    alloc: Global,
-    xs: &Area<'_, L>,
-    ys: &Area<'_, L>,
-) -> Result<Value, Stop>
+fn product_total<L: Look>(alloc: Global, xs: &Area<'_, L>, ys: &Area<'_, L>) -> Result<Value, Stop>
     requires { length (items xs.now) ≡ length (items ys.now) }
     ensures { Gives result (product_total (items xs.now) (items ys.now)) }
 {

@@ -16,5 +16,5 @@ returns-else-b-gt0 c =
     let nb : to_z w128 (of_z w128 (pos 0 -ℤ to_z w128 (of_z w128 c.from-b.result))) ≡ neg_ℤ c.args.b = omega (arith, ints) in
     let negative : lt_z (pos 0) c.args.b ≡ false = grind (arith, ints) in
     let floored : neg_ℤ c.rem_euclid-else-b-gt0.result ≡ c.args.a -ℤ c.args.b *ℤ floor_div c.args.a c.args.b =
-        below c.args.a c.args.b c.rem_euclid-else-b-gt0.result c.requires negative (c.rem_euclid-else-b-gt0.ensures.value ∙ (λ i. int_rem_euclid (na i) (nb i))) in
+    below c.args.a c.args.b c.rem_euclid-else-b-gt0.result c.requires negative (c.rem_euclid-else-b-gt0.ensures.value ∙ (λ i. int_rem_euclid (na i) (nb i))) in
     omega (arith, ints)

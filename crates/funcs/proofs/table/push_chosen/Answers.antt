@@ -12,11 +12,11 @@ returns-in_err-push_if_same g c =
     rw (p.1, p.2) (stopped_leaving _ c.push_if_same.new.found c.push_if_same.new.found _ _
     (λ d e. c.loop-i.invariant
     ∙ chosen-err (items c.args.area.now) (items c.args.sums.now) c.loop-i.i (owned c.item.result) (owned c.item-in-loop-i.result) c.item.ensures c.item-in-loop-i.ensures
-      (owned c.args.x) c.loop-i.found d e)
+    (owned c.args.x) c.loop-i.found d e)
     c.in_err-push_if_same.ensures)
 
 pub loop-i-preserved : goal.loop-i-preserved
 loop-i-preserved g c =
     c.loop-i.invariant
     ∙ chosen-ok (items c.args.area.now) (items c.args.sums.now) c.loop-i.i (owned c.item.result) (owned c.item-in-loop-i.result) c.item.ensures c.item-in-loop-i.ensures
-      (owned c.args.x) c.loop-i.found _ c.in_ok-push_if_same.ensures
+    (owned c.args.x) c.loop-i.found _ c.in_ok-push_if_same.ensures

@@ -18,4 +18,4 @@ pub loop-i-preserved : goal.loop-i-preserved
 loop-i-preserved g c =
     c.loop-i.invariant
     ∙ product-ok (items c.args.xs.now) (items c.args.ys.now) c.loop-i.i (owned c.item.result) (owned c.item-in-loop-i.result) c.item.ensures c.item-in-loop-i.ensures
-      c.loop-i.found _ c.in_ok-push_product.ensures
+    c.loop-i.found _ c.in_ok-push_product.ensures

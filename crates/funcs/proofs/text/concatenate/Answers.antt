@@ -24,7 +24,7 @@ loop-a-preserved g c =
     c.loop-a.invariant
     ∙ (joined-ok (λ a. text E a) c.loop-a.joined.items c.args.args.now c.loop-a.a-index c.a-item.result c.loop-a-test.true c.a-item.is c.in_ok-t.t c.in_ok-t.ensures
     ∙ ap (λ (bs : List ℕ). joined bs (all_of (map (λ a. text E a) (drop (c.loop-a.a-index + 1) c.args.args.now))))
-      (ap (λ (u : List ℕ). c.loop-a.joined.items ++ u) (sym c.bytes.ensures) ∙ sym c.in_ok-extend_from_slice.ensures.items))
+    (ap (λ (u : List ℕ). c.loop-a.joined.items ++ u) (sym c.bytes.ensures) ∙ sym c.in_ok-extend_from_slice.ensures.items))
 
 pub returns : goal.returns
 returns g c =
