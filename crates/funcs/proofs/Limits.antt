@@ -10,7 +10,7 @@ use Rattle.ss_base.specs.declared.types.CalcErr.TheVariants as fault
 use Rattle.sheet_value.specs.declared.value.Value.{Value}
 use Rattle.sheet_value.specs.declared.value.Value.TheVariants as value
 use Rattle.sheet_value.specs.Values.{IsWithinLimit, text_value}
-use Rattle.sheet_value.specs.Environment.{Environment, IsSound, cell_value, range_shape}
+use Rattle.sheet_value.specs.Environment.{Environment, HasShortTexts, cell_value, range_shape}
 use Rattle.funcs.specs.declared.arg.Arg.{Arg}
 use Rattle.funcs.specs.declared.arg.Arg.TheVariants as arg
 use Rattle.funcs.specs.Steps.{and_then, answer}
@@ -68,13 +68,13 @@ sumif-within E args =
     steps (same_shape rows sums) _ (λ _ _. steps (sheet_numbers (chosen x (items rows) (items sums))) _ (λ ns _. number-within (total ns)))))))
 
 -- ---- values that are handed on
-module _ (E : Environment) (sound : IsSound E) where
+module _ (E : Environment) (short : HasShortTexts E) where
   cell-within : (s : _) → IsWithinLimit (unwrap_or (cell_value E s) (value.Err fault.Lost))
   cell-within s = by_place (E.place s)
     where
       by_place : (o : Option (ℕ × ℕ)) → IsWithinLimit (unwrap_or (option_map (λ at. E.value at.0 at.1) o) (value.Err fault.Lost))
       by_place None = tt
-      by_place (Some at) = sound.values at.0 at.1
+      by_place (Some at) = short at.0 at.1
 
   first-within : (a : Arg) (args : List Arg) → AreWithinLimit (a ∷ args) → IsWithinLimit (value_of E a)
   first-within (arg.One v) args h = h.0
@@ -130,7 +130,7 @@ module _ (E : Environment) (sound : IsSound E) where
     where
       row : (cs : List ℕ) → AllByRecursion IsWithinLimit (map (λ c. E.value r c) cs)
       row [] = tt
-      row (c ∷ cs) = (sound.values r c, row cs)
+      row (c ∷ cs) = (short r c, row cs)
 
   area-within : (a : Arg) (rows : List (List Value)) → area E a ≡ Ok rows → RowsWithin rows
   area-within (arg.One v) rows e = absurd (cc)
@@ -140,7 +140,7 @@ module _ (E : Environment) (sound : IsSound E) where
       by_place None e = absurd (cc)
       by_place (Some at) e =
           let is : (E.value at.0 at.1 ∷ []) ∷ [] ≡ rows = cc in
-          subst (λ (vs : List (List Value)). RowsWithin vs) is ((sound.values at.0 at.1, tt), tt)
+          subst (λ (vs : List (List Value)). RowsWithin vs) is ((short at.0 at.1, tt), tt)
   area-within (arg.Over s) rows e = by_test (is_some (range_shape E s)) e
     where
       by_test : (b : Bool) → cond b (Ok (range_values E s)) (Err fault.Lost) ≡ Ok rows → RowsWithin rows

@@ -9,7 +9,7 @@ use Rattle.ss_base.specs.declared.types.Size.{Size}
 use Rattle.ss_base.specs.declared.types.Span.{Span}
 use Rattle.ss_base.specs.declared.types.CalcErr.TheVariants as fault
 use Rattle.sheet_value.specs.declared.value.Value.{Value}
-use Rattle.sheet_value.specs.Environment.{Environment, IsSound, range_shape, size_of_lines}
+use Rattle.sheet_value.specs.Environment.{Environment, range_shape, size_of_lines}
 use Rattle.funcs.specs.declared.area.Place.{Place}
 use Rattle.funcs.specs.declared.area.Place.TheVariants as place
 use Rattle.funcs.specs.Areas.{items, width, item_at, range_values}
@@ -117,7 +117,7 @@ first_width f cols (r ∷ rows) h = along cols
 pub is_shape : (E : Environment) (at : Place) (shape : Size) → HasShape E at shape → IsShape (values_of E at) shape
 is_shape E (place.Cell v) shape h = subst (λ (s : Size). IsShape ((owned v ∷ []) ∷ []) s) (sym h) (alone (owned v))
 is_shape E (place.Range s) shape h =
-    let (rows, cols, some_rows, some_cols) = shaped (E.rows s.now) (E.cols s.now) shape h in
+    let (rows, cols, some_rows, some_cols) = shaped (E.rows s.now) (E.cols s.now) shape h.0 in
     record {
       rows = length-rows E.value (E.cols s.now) (E.rows s.now) ∙ sym rows;
       cols = first_width E.value (E.cols s.now) (E.rows s.now) some_rows ∙ sym cols;
@@ -159,19 +159,14 @@ module _ (vs : List (List Value)) (shape : Size) (is : IsShape vs shape) where
   past_cols row col h = ap (λ (o : Option Value). ok_or o fault.Lost) (sym (is.past row col h))
 
 -- no area is large
-pub few : (E : Environment) (at : Place) (shape : Size) → IsSound E → HasShape E at shape → shape.rows * shape.cols ≤ 256000000
-few E (place.Cell v) shape sound h = rw h (let z : 1 * 1 ≤ 256000000 = omega arith in z)
-few E (place.Range s) shape sound h =
-    let (rows, cols, some_rows, some_cols) = shaped (E.rows s.now) (E.cols s.now) shape h in
-    let r : shape.rows ≤ 16000 = let l = sound.rows s.now in omega (arith, rows, l) in
-    let c : shape.cols ≤ 16000 = let l = sound.cols s.now in omega (arith, cols, l) in
-    let m : shape.rows * shape.cols ≤ 16000 * 16000 = mul-le-mul r c in
-    omega arith
+pub few : (E : Environment) (at : Place) (shape : Size) → HasShape E at shape → shape.rows * shape.cols ≤ 256000000
+few E (place.Cell v) shape h = rw h (let z : 1 * 1 ≤ 256000000 = omega arith in z)
+few E (place.Range s) shape h = let m : shape.rows * shape.cols ≤ 16000 * 16000 = mul-le-mul h.1 h.2 in omega arith
 
 -- so each row has a small number
-pub small_row : (E : Environment) (at : Place) (shape : Size) (vs : List (List Value)) (i : ℕ) → IsSound E → HasShape E at shape → IsShape vs shape → i < length (items vs) → i / shape.cols < 2 ^ 32
-small_row E at shape vs i sound h is inside =
+pub small_row : (E : Environment) (at : Place) (shape : Size) (vs : List (List Value)) (i : ℕ) → HasShape E at shape → IsShape vs shape → i < length (items vs) → i / shape.cols < 2 ^ 32
+small_row E at shape vs i h is inside =
     let c = is.count in
-    let f = few E at shape sound h in
+    let f = few E at shape h in
     let l : i / shape.cols ≤ i = div-le_self i shape.cols in
     omega (arith, c, f, l, inside)

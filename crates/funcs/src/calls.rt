@@ -1,4 +1,5 @@
 ghost use Rattle.std.specs.Prelude.{◌≡◌, ◌^◌, ◌<◌, true, false, Ok, length, IfOk};
+ghost use Rattle.sheet_value.specs.Environment.{HasShortTexts};
 ghost use Rattle.sheet_value.specs.Values.{IsWithinLimit};
 ghost use Rattle.funcs.specs.Args.{AreWithinLimit};
 ghost use Rattle.funcs.specs.Steps.{answer};
@@ -290,7 +291,7 @@ pub fn columns_fn<L: Look>(_alloc: Global, args: &[Arg], look: &L) -> Result<Val
 pub fn call<L: Look>(alloc: Global, fun: &Fun, args: &[Arg], look: &L) -> Result<Value, Memory>
     requires { length args.now < 2 ^ 24 }
     ensures value { IfOk result (λ v. v ≡ answer (call_of fun.now (L.environment look.now) args.now)) }
-    ensures limit { AreWithinLimit args.now → IfOk result (λ v. IsWithinLimit v) }
+    ensures limit { HasShortTexts (L.environment look.now) → AreWithinLimit args.now → IfOk result (λ v. IsWithinLimit v) }
 {
     match fun {
         Fun::Sum => sum_fn(alloc, args, look),

@@ -5,7 +5,7 @@ pub overflow_cast-i : goal.overflow_cast-i
 overflow_cast-i g c =
     let E = g.L.Look.environment c.self.inside.look.now in
     let shape = area_shape E c.self.inside.place c.self.inside.shape c.args.self.now c.self.invariant c.self.view_is in
-    record { fits = small_row E c.self.inside.place c.self.inside.shape c.args.self.now c.args.i (g.met.L.Look.sound c.self.inside.look.now) c.self.invariant shape c.requires }
+    record { fits = small_row E c.self.inside.place c.self.inside.shape c.args.self.now c.args.i c.self.invariant shape c.requires }
 
 pub at-requires-clause-row : goal.at-requires-clause-row
 at-requires-clause-row g c =
