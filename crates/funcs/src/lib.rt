@@ -22,3 +22,6 @@ pub use calls::{
     istext_fn, left_fn, len_fn, match_fn, max_fn, mid_fn, min_fn, mod_fn, na_fn, not_fn, or_fn,
     quotient_fn, right_fn, rows_fn, sign_fn, sum_fn, sumif_fn, sumproduct_fn, true_fn, vlookup_fn,
 };
+
+#[cfg(test)]
+mod tests;
