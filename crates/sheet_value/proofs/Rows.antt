@@ -104,6 +104,9 @@ filled-kept (value.Num n) = refl
 filled-kept (value.Text t) = refl
 filled-kept (value.Err e) = refl
 
+pub kept-or : (o : Option Value) (v : Value) → o ≡ filled v → unwrap_or o value.Empty ≡ v
+kept-or o v e = ap (λ (p : Option Value). unwrap_or p value.Empty) e ∙ filled-kept v
+
 filled-or : (o : Option Value) → filled (unwrap_or o value.Empty) ≡ option_and_then filled o
 filled-or None = refl
 filled-or (Some v) = refl

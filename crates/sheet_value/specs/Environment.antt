@@ -1,5 +1,6 @@
 -- What a formula sees: where its references lead, and the values there.
-use Rattle.std.specs.Prelude.{ℕ, ◌<◌, ◌≤◌, List, [], ◌∷◌, length, slice_index, Option, None, Some, option_map}
+use Rattle.std.specs.Prelude.{ℕ, suc, ◌-◌, min, ◌<◌, ◌≤◌, ◌&&◌, nat_lt, if◌then◌else◌, List, [], ◌∷◌, length, slice_index, Option, None, Some, option_map}
+use Rattle.std.specs.List.{range_with_len}
 use Rattle.ss_base.specs.declared.types.Spot.{Spot}
 use Rattle.ss_base.specs.declared.types.Span.{Span}
 use Rattle.ss_base.specs.declared.types.Size.{Size}
@@ -8,6 +9,7 @@ use Rattle.sheet_value.specs.declared.value.Value.TheVariants as value
 use Rattle.sheet_value.specs.declared.look.Seen.{Seen}
 use Rattle.sheet_value.specs.declared.look.Seen.TheVariants as seen
 use Rattle.sheet_value.specs.Values.{IsWithinLimit}
+use Rattle.sheet_value.specs.Tables.{Table, value_at}
 
 -- One map of values by row and column; the row and column that a reference to a cell leads to, none where it is lost; and
 -- the visible rows and columns of a range, from first to last.
@@ -17,11 +19,9 @@ pub record Environment : Type 0 where
   pub rows : Span → List ℕ
   pub cols : Span → List ℕ
 
--- no text is too long, and no range too large
-pub record IsSound (E : Environment) : Type 0 where
-  pub values : (row col : ℕ) → IsWithinLimit (E.value row col)
-  pub rows : (s : Span) → length (E.rows s) ≤ 16000
-  pub cols : (s : Span) → length (E.cols s) ≤ 16000
+-- no text there is too long
+abbrev pub HasShortTexts : Environment → Type 0
+HasShortTexts E = (row col : ℕ) → IsWithinLimit (E.value row col)
 
 -- the value of a cell, none where the reference is lost
 abbrev pub cell_value : Environment → Spot → Option Value
@@ -50,3 +50,18 @@ abbrev pub seen_value : Seen → Option Value
 seen_value seen.Empty = Some value.Empty
 seen_value seen.Lost = None
 seen_value (seen.Is v) = Some v.now
+
+-- ---- a table whose lines are all visible
+
+-- the lines from the first to the last of so many
+abbrev pub lines_between : ℕ → ℕ → ℕ → List ℕ
+lines_between first last count = range_with_len first (min (suc last) count - first)
+
+-- a reference outside the table is lost
+abbrev pub table_environment : Table → Environment
+table_environment T = record {
+  value = value_at T;
+  place = λ s. if nat_lt s.row T.size.rows && nat_lt s.col T.size.cols then Some (s.row, s.col) else None;
+  rows = λ s. lines_between s.top s.bottom T.size.rows;
+  cols = λ s. lines_between s.left s.right T.size.cols;
+}

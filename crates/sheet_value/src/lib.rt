@@ -8,6 +8,7 @@ mod grid;
 mod law;
 mod look;
 mod ordering;
+mod plain;
 mod value;
 
 pub use batch::{Batch, Change};

@@ -1,0 +1,87 @@
+-- Numbers found one after another.
+use Rattle.std.proofs.Common.{◌≡◌, ℕ, ℤ, ◌+◌, ◌<◌, ◌≤◌, List, [], ◌∷◌, ◌++◌, length, map, drop, get_or, Result, Ok, Err, refl, sym, ap, ◌∙◌, append_assoc}
+use Rattle.std.specs.Prelude.{filter_map, flat_map, slice_get, Option, Some, None}
+use Rattle.std.specs.List.{cons_option}
+use Rattle.std.proofs.lemmas.List.{drop_more, drop_all, append-nil}
+use Rattle.std.proofs.lemmas.List.Concat.{flat_map-cons}
+use Rattle.std.proofs.lemmas.List.Elements.{filter_map-append}
+use Rattle.std.proofs.lemmas.Option.{slice_get_within, get_or_from_slice_get}
+use Rattle.ss_base.specs.declared.types.CalcErr.{CalcErr}
+use Rattle.sheet_value.specs.declared.value.Value.{Value}
+use Rattle.sheet_value.specs.Environment.{Environment}
+use Rattle.funcs.specs.declared.arg.Arg.{Arg}
+use Rattle.funcs.specs.declared.arg.Arg.TheVariants as arg
+use Rattle.funcs.specs.Steps.{and_then, all_of}
+use Rattle.funcs.specs.Areas.{Item, sheet, area, items, sheet_items, items_of, items_of_all, item_number, item_numbers, sheet_number, sheet_numbers, appended}
+
+pub appended-more : {A : Type 0} (xs : List A) (x : A) (r : Result (List A) CalcErr) → appended xs (and_then r (λ more. Ok (x ∷ more))) ≡ appended (xs ++ x ∷ []) r
+appended-more xs x (Ok more) = λ i. Ok (sym (append_assoc xs (x ∷ []) more) i)
+appended-more xs x (Err e) = refl
+
+-- some results, and others after them
+pub appended-both : {A : Type 0} (xs : List A) (rs ss : List (Result A CalcErr)) → appended xs (all_of (rs ++ ss)) ≡ and_then (appended xs (all_of rs)) (λ more. appended more (all_of ss))
+appended-both {A} xs [] ss = ap (λ (ms : List A). appended ms (all_of ss)) (sym (append-nil xs))
+appended-both {A} xs (Ok x ∷ rs) ss =
+    appended-more xs x (all_of (rs ++ ss))
+    ∙ (appended-both (xs ++ x ∷ []) rs ss
+    ∙ ap (λ (r : Result (List A) CalcErr). and_then r (λ more. appended more (all_of ss))) (sym (appended-more xs x (all_of rs))))
+appended-both xs (Err e ∷ rs) ss = refl
+
+pub appended-none : {A : Type 0} (r : Result (List A) CalcErr) → appended [] r ≡ r
+appended-none (Ok xs) = refl
+appended-none (Err e) = refl
+
+-- none left
+pub appended_end : {A B : Type 0} (f : List B → List (Result A CalcErr)) (none : f [] ≡ []) (found : List A) (bs : List B) (i : ℕ) → length bs ≤ i → appended found (all_of (f (drop i bs))) ≡ Ok found
+appended_end {A} {B} f none found bs i h =
+    ap (λ (cs : List B). appended found (all_of (f cs))) (drop_all i bs h)
+    ∙ (ap (λ (rs : List (Result A CalcErr)). appended found (all_of rs)) none
+    ∙ (λ j. Ok (append-nil found j)))
+
+module _ {A : Type 0} (h : A → Option (Result ℤ CalcErr)) where
+  -- the numbers of some items, and of others after them
+  parts : (ns : List ℤ) (xs ys : List A) → appended ns (all_of (filter_map h (xs ++ ys))) ≡ and_then (appended ns (all_of (filter_map h xs))) (λ more. appended more (all_of (filter_map h ys)))
+  parts ns xs ys = ap (λ (rs : List (Result ℤ CalcErr)). appended ns (all_of rs)) (filter_map-append h xs ys) ∙ appended-both ns (filter_map h xs) (filter_map h ys)
+
+  pub parts-ok : (ns more : List ℤ) (xs ys : List A) → appended ns (all_of (filter_map h xs)) ≡ Ok more → appended ns (all_of (filter_map h (xs ++ ys))) ≡ appended more (all_of (filter_map h ys))
+  parts-ok ns more xs ys e = parts ns xs ys ∙ ap (λ (r : Result (List ℤ) CalcErr). and_then r (λ ms. appended ms (all_of (filter_map h ys)))) e
+
+  pub parts-err : (ns : List ℤ) (d : CalcErr) (xs ys : List A) → appended ns (all_of (filter_map h xs)) ≡ Err d → appended ns (all_of (filter_map h (xs ++ ys))) ≡ Err d
+  parts-err ns d xs ys e = parts ns xs ys ∙ ap (λ (r : Result (List ℤ) CalcErr). and_then r (λ ms. appended ms (all_of (filter_map h ys)))) e
+
+-- ---- the items of an area, one by one
+module _ (ns : List ℤ) (vs : List Value) (i : ℕ) (v : Value) (this : slice_get vs i ≡ Some v) where
+  rest : drop i vs ≡ (v ∷ []) ++ drop (i + 1) vs
+  rest = drop_more vs i v (slice_get_within vs i v this) ∙ ap (λ (w : Value). w ∷ drop (i + 1) vs) (get_or_from_slice_get vs i v v this)
+
+  pub value-ok : (more : List ℤ) → appended ns (sheet_numbers (v ∷ [])) ≡ Ok more → appended ns (sheet_numbers (drop i vs)) ≡ appended more (sheet_numbers (drop (i + 1) vs))
+  value-ok more e = ap (λ (ws : List Value). appended ns (sheet_numbers ws)) rest ∙ parts-ok sheet_number ns more (v ∷ []) (drop (i + 1) vs) e
+
+  pub value-err : (d : CalcErr) → appended ns (sheet_numbers (v ∷ [])) ≡ Err d → appended ns (sheet_numbers (drop i vs)) ≡ Err d
+  value-err d e = ap (λ (ws : List Value). appended ns (sheet_numbers ws)) rest ∙ parts-err sheet_number ns d (v ∷ []) (drop (i + 1) vs) e
+
+-- ---- the items of some arguments, one argument after another
+module _ (E : Environment) (ns : List ℤ) (args : List Arg) (i : ℕ) (a : Arg) (inside : i < length args) (this : a ≡ get_or args i a) where
+  others : items_of_all E (drop i args) ≡ items_of E a ++ items_of_all E (drop (i + 1) args)
+  others =
+      ap (λ (xs : List Arg). items_of_all E xs) (drop_more args i a inside ∙ ap (λ (b : Arg). b ∷ drop (i + 1) args) (sym this))
+      ∙ flat_map-cons (λ (b : Arg). items_of E b) a (drop (i + 1) args)
+
+  pub arg-ok : (more : List ℤ) → appended ns (item_numbers (items_of E a)) ≡ Ok more → appended ns (item_numbers (items_of_all E (drop i args))) ≡ appended more (item_numbers (items_of_all E (drop (i + 1) args)))
+  arg-ok more e = ap (λ (is : List Item). appended ns (item_numbers is)) others ∙ parts-ok item_number ns more (items_of E a) (items_of_all E (drop (i + 1) args)) e
+
+  pub arg-err : (d : CalcErr) → appended ns (item_numbers (items_of E a)) ≡ Err d → appended ns (item_numbers (items_of_all E (drop i args))) ≡ Err d
+  arg-err d e = ap (λ (is : List Item). appended ns (item_numbers is)) others ∙ parts-err item_number ns d (items_of E a) (items_of_all E (drop (i + 1) args)) e
+
+-- the numbers of an area's items are those of its values
+pub area-numbers : (vs : List Value) → item_numbers (map sheet vs) ≡ sheet_numbers vs
+area-numbers vs = ap (λ (rs : List (Result ℤ CalcErr)). all_of rs) (along vs)
+  where
+    along : (ws : List Value) → filter_map item_number (map sheet ws) ≡ filter_map sheet_number ws
+    along [] = refl
+    along (w ∷ ws) = ap (λ (rs : List (Result ℤ CalcErr)). cons_option (sheet_number w) rs) (along ws)
+
+pub items-area : (E : Environment) (a : Arg) (rows : List (List Value)) → Ok rows ≡ area E a → item_numbers (items_of E a) ≡ sheet_numbers (items rows)
+items-area E (arg.One v) rows e = absurd (cc)
+items-area E (arg.At s) rows e = ap (λ (r : Result (List (List Value)) CalcErr). item_numbers (sheet_items r)) (sym e) ∙ area-numbers (items rows)
+items-area E (arg.Over s) rows e = ap (λ (r : Result (List (List Value)) CalcErr). item_numbers (sheet_items r)) (sym e) ∙ area-numbers (items rows)

@@ -1,0 +1,13 @@
+pub mod Steps
+pub mod Refs
+pub mod Stops
+pub mod Numbers
+pub mod Args
+pub mod Areas
+pub mod Places
+pub mod Scalars
+pub mod Texts
+pub mod Lists
+pub mod Counts
+pub mod Tables
+pub mod Calls

@@ -1,0 +1,311 @@
+ghost use Rattle.std.specs.Prelude.{◌≡◌, ◌<◌, ◌≤◌, [], ◌∷◌, Ok, Err, None, find, length, slice_get, IfSome, OnOk, MatchOption, MatchResult};
+ghost use Rattle.std.specs.List.{position_from};
+ghost use Rattle.funcs.specs.Areas.{items, width, same, same_shape, sheet_numbers, appended};
+ghost use Rattle.funcs.specs.Args.{criterion};
+ghost use Rattle.funcs.specs.Refs.{owned, owned_result};
+ghost use Rattle.funcs.specs.Steps.{all_of};
+ghost use Rattle.funcs.specs.Stops.{Gives, Leaves};
+ghost use Rattle.funcs.specs.Tables.{index_of, exact_match, line, match_of, column, begins_with, looked_up, vlookup_of, countif_of, chosen, chosen_total, sumif_of, no_errors, number_or_zero, products, product_total, sumproduct_of, rows_of, columns_of};
+
+use crate::area::Area;
+use crate::arg::{Arg, number, value};
+use crate::arity::{four, one, three, two, two_or_three};
+use crate::list::{Counted, count_area, push_value, total};
+use crate::number::{in_range, number_value, place};
+use crate::stop::Stop;
+use crate::text::number_or_one;
+use crate::value_ref::ValueRef;
+use sheet_value::{Look, Value};
+use ss_base::{CalcErr, Seq};
+use std::alloc::Global;
+
+/// What items are compared with.
+fn criterion<'a, L: Look>(arg: &'a Arg, look: &'a L) -> Result<ValueRef<'a>, CalcErr>
+    ensures { owned_result result ≡ criterion (L.environment look.now) arg.now }
+{
+    match value(arg, look) {
+        ValueRef::Err(e) => Err(e),
+        ValueRef::Empty => Ok(ValueRef::Num(0)),
+        v => Ok(v),
+    }
+}
+
+/// The item that an INDEX comes to.
+pub(crate) fn index_value<'a, L: Look>(
+    args: &'a [Arg],
+    look: &'a L,
+) -> Result<ValueRef<'a>, CalcErr>
+    ensures { owned_result result ≡ index_of (L.environment look.now) args.now }
+{
+    let (a, r, c) = two_or_three(args)?;
+    let area = Area::of(a, look)?;
+    let r = number(r, look)?;
+    let c = number_or_one(c, look)?;
+    let row = place(r)?;
+    let col = place(c)?;
+    area.get(row, col)
+}
+
+/// Whether an exact match is asked for, which is the only kind.
+fn exact_match(m: i64) -> Result<(), CalcErr>
+    ensures { result ≡ exact_match m }
+{
+    if m != 0 {
+        return Err(CalcErr::BadKind);
+    }
+    Ok(())
+}
+
+/// A single row or column.
+fn line<L: Look>(area: &Area<'_, L>) -> Result<(), CalcErr>
+    ensures { MatchResult result (λ _. line area.now ≡ Ok (items area.now)) (λ e. line area.now ≡ Err e) }
+{
+    if area.rows() == 1 || area.cols() == 1 {
+        return Ok(());
+    }
+    Err(CalcErr::BadKind)
+}
+
+/// The place from 1 of the first item that is the same.
+fn position<L: Look>(area: &Area<'_, L>, x: ValueRef<'_>) -> Option<usize>
+    ensures value { result ≡ position_from (λ v. same v (owned x.entry)) 1 (items area.now) }
+    ensures few { IfSome result (λ k. k ≤ 256000000) }
+{
+    for i in 0..area.count() {
+        if area.item(i).is_same(x) {
+            return Some(i + 1);
+        }
+    }
+    None
+}
+
+pub(crate) fn match_place<L: Look>(args: &[Arg], look: &L) -> Result<Value, CalcErr>
+    ensures { result ≡ match_of (L.environment look.now) args.now }
+{
+    let (x, a, m) = three(args)?;
+    let x = criterion(x, look)?;
+    let area = Area::of(a, look)?;
+    let m = number(m, look)?;
+    exact_match(m)?;
+    line(&area)?;
+    match position(&area, x) {
+        Some(k) => Ok(Value::Num(k as i64)),
+        None => Err(CalcErr::Na),
+    }
+}
+
+/// A column of the shape.
+fn column<L: Look>(area: &Area<'_, L>, col: usize) -> Result<usize, CalcErr>
+    ensures { result ≡ column area.now col }
+{
+    if col < area.cols() as usize {
+        return Ok(col);
+    }
+    Err(CalcErr::Lost)
+}
+
+/// The first row that begins with the same item.
+fn find_row<L: Look>(area: &Area<'_, L>, x: ValueRef<'_>) -> Option<u32>
+    requires { 0 < width area.now }
+    ensures { MatchOption result (find (begins_with (owned x.entry)) area.now ≡ None) (λ row. (row < length area.now) × (find (begins_with (owned x.entry)) area.now ≡ slice_get area.now row)) }
+{
+    for row in 0..area.rows() {
+        if area.at(row, 0).is_same(x) {
+            return Some(row);
+        }
+    }
+    None
+}
+
+/// The item in a column of that row.
+fn looked_up<'a, L: Look>(
+    area: &Area<'a, L>,
+    x: ValueRef<'_>,
+    col: usize,
+) -> Result<ValueRef<'a>, CalcErr>
+    requires { col < width area.now }
+    ensures { owned_result result ≡ looked_up (owned x.entry) col area.now }
+{
+    match find_row(area, x) {
+        Some(row) => area.get(row as usize, col),
+        None => Err(CalcErr::Na),
+    }
+}
+
+/// The item that a VLOOKUP comes to.
+pub(crate) fn vlookup_value<'a, L: Look>(
+    args: &'a [Arg],
+    look: &'a L,
+) -> Result<ValueRef<'a>, CalcErr>
+    ensures { owned_result result ≡ vlookup_of (L.environment look.now) args.now }
+{
+    let (x, a, c, m) = four(args)?;
+    let x = criterion(x, look)?;
+    let area = Area::of(a, look)?;
+    let c = number(c, look)?;
+    let m = number(m, look)?;
+    exact_match(m)?;
+    let k = place(c)?;
+    let col = column(&area, k)?;
+    looked_up(&area, x, col)
+}
+
+pub(crate) fn countif<L: Look>(args: &[Arg], look: &L) -> Result<Value, CalcErr>
+    ensures { result ≡ countif_of (L.environment look.now) args.now }
+{
+    let (a, x) = two(args)?;
+    let area = Area::of(a, look)?;
+    let x = criterion(x, look)?;
+    Ok(Value::Num(count_area(&area, Counted::Same(x)) as i64))
+}
+
+/// Two areas of one shape.
+fn same_shape<L: Look>(xs: &Area<'_, L>, ys: &Area<'_, L>) -> Result<(), CalcErr>
+    ensures shape { result ≡ same_shape xs.now ys.now }
+    ensures count { OnOk result (length (items xs.now) ≡ length (items ys.now)) }
+{
+    if xs.rows() == ys.rows() && xs.cols() == ys.cols() {
+        return Ok(());
+    }
+    Err(CalcErr::BadKind)
+}
+
+/// Appends the number of an item, if the item beside it is the same; an error is the result.
+fn push_if_same(
+    found: &mut Seq<i64>,
+    v: ValueRef<'_>,
+    x: ValueRef<'_>,
+    w: ValueRef<'_>,
+) -> Result<(), Stop>
+    ensures { Leaves result found.new (appended found.old (sheet_numbers (chosen (owned x.entry) (owned v.entry ∷ []) (owned w.entry ∷ [])))) }
+{
+    if v.is_same(x) {
+        return push_value(found, w);
+    }
+    Ok(())
+}
+
+/// Appends the numbers of the items whose items beside them are the same.
+fn push_chosen<L: Look>(
+    found: &mut Seq<i64>,
+    area: &Area<'_, L>,
+    x: ValueRef<'_>,
+    sums: &Area<'_, L>,
+) -> Result<(), Stop>
+    requires { length (items area.now) ≡ length (items sums.now) }
+    ensures { Leaves result found.new (appended found.old (sheet_numbers (chosen (owned x.entry) (items area.now) (items sums.now)))) }
+{
+    for i in 0..area.count() {
+        push_if_same(found, area.item(i), x, sums.item(i))?;
+    }
+    Ok(())
+}
+
+/// Their exact total.
+fn chosen_total<L: Look>(
+    alloc: Global,
+    area: &Area<'_, L>,
+    x: ValueRef<'_>,
+    sums: &Area<'_, L>,
+) -> Result<Value, Stop>
+    requires { length (items area.now) ≡ length (items sums.now) }
+    ensures { Gives result (chosen_total (owned x.entry) area.now sums.now) }
+{
+    let mut found = Seq::new(alloc);
+    push_chosen(&mut found, area, x, sums)?;
+    Ok(number_value(total(found.as_slice()))?)
+}
+
+pub(crate) fn sumif<L: Look>(alloc: Global, args: &[Arg], look: &L) -> Result<Value, Stop>
+    ensures { Gives result (sumif_of (L.environment look.now) args.now) }
+{
+    let (a, x, s) = two_or_three(args)?;
+    let area = Area::of(a, look)?;
+    let x = criterion(x, look)?;
+    let sums = Area::of(s.unwrap_or(a), look)?;
+    same_shape(&area, &sums)?;
+    chosen_total(alloc, &area, x, &sums)
+}
+
+/// Whether no item is an error; the first one is the result.
+fn no_errors<L: Look>(area: &Area<'_, L>) -> Result<(), CalcErr>
+    ensures { MatchResult result (λ _. no_errors area.now ≡ Ok (items area.now)) (λ e. no_errors area.now ≡ Err e) }
+{
+    for i in 0..area.count() {
+        if let ValueRef::Err(e) = area.item(i) {
+            return Err(e);
+        }
+    }
+    Ok(())
+}
+
+/// An item that is a number, or else 0.
+fn number_or_zero(v: ValueRef<'_>) -> i64
+    ensures { result ≡ number_or_zero (owned v.entry) }
+{
+    match v {
+        ValueRef::Num(n) => n,
+        ValueRef::Empty | ValueRef::Text(_) | ValueRef::Err(_) => 0,
+    }
+}
+
+/// Appends the product of two items; one that has no 64 bits is the result.
+fn push_product(found: &mut Seq<i64>, v: ValueRef<'_>, w: ValueRef<'_>) -> Result<(), Stop>
+    ensures { Leaves result found.new (appended found.old (all_of (products (owned v.entry ∷ []) (owned w.entry ∷ [])))) }
+{
+    let n = in_range(i128::from(number_or_zero(v)) * i128::from(number_or_zero(w)))?;
+    Ok(found.push(n)?)
+}
+
+/// Appends the products place by place; the first that has no 64 bits is the result.
+fn push_products<L: Look>(
+    found: &mut Seq<i64>,
+    xs: &Area<'_, L>,
+    ys: &Area<'_, L>,
+) -> Result<(), Stop>
+    requires { length (items xs.now) ≡ length (items ys.now) }
+    ensures { Leaves result found.new (appended found.old (all_of (products (items xs.now) (items ys.now)))) }
+{
+    for i in 0..xs.count() {
+        push_product(found, xs.item(i), ys.item(i))?;
+    }
+    Ok(())
+}
+
+/// The exact total of the products.
+fn product_total<L: Look>(alloc: Global, xs: &Area<'_, L>, ys: &Area<'_, L>) -> Result<Value, Stop>
+    requires { length (items xs.now) ≡ length (items ys.now) }
+    ensures { Gives result (product_total (items xs.now) (items ys.now)) }
+{
+    let mut found = Seq::new(alloc);
+    push_products(&mut found, xs, ys)?;
+    Ok(number_value(total(found.as_slice()))?)
+}
+
+pub(crate) fn sumproduct<L: Look>(alloc: Global, args: &[Arg], look: &L) -> Result<Value, Stop>
+    ensures { Gives result (sumproduct_of (L.environment look.now) args.now) }
+{
+    let (x, y) = two(args)?;
+    let xs = Area::of(x, look)?;
+    let ys = Area::of(y, look)?;
+    same_shape(&xs, &ys)?;
+    no_errors(&xs)?;
+    no_errors(&ys)?;
+    product_total(alloc, &xs, &ys)
+}
+
+pub(crate) fn rows<L: Look>(args: &[Arg], look: &L) -> Result<Value, CalcErr>
+    ensures { result ≡ rows_of (L.environment look.now) args.now }
+{
+    let a = one(args)?;
+    let area = Area::of(a, look)?;
+    Ok(Value::Num(i64::from(area.rows())))
+}
+
+pub(crate) fn columns<L: Look>(args: &[Arg], look: &L) -> Result<Value, CalcErr>
+    ensures { result ≡ columns_of (L.environment look.now) args.now }
+{
+    let a = one(args)?;
+    let area = Area::of(a, look)?;
+    Ok(Value::Num(i64::from(area.cols())))
+}
