@@ -4,3 +4,4 @@ pub mod Parting
 pub mod Spelled
 pub mod Cut
 pub mod Calls
+pub mod ReadBack

@@ -3,8 +3,10 @@
 
 mod pieces;
 mod printer;
+mod round_trip;
 
 pub use printer::print;
+pub use round_trip::formulas_are_read_back;
 
 #[cfg(test)]
 mod tests;

@@ -10,8 +10,7 @@ ghost use Rattle.formula_print.specs.Arguments.{parted_texts};
 use crate::pieces::{
     push_byte, push_bytes, push_cell, push_if, push_number, push_quoted, push_range,
 };
-use cell_addr::addresses_are_read_back;
-use formula_read::next_tokens;
+use crate::round_trip::formulas_are_read_back;
 use formula_tree::{Expr, Formula, error_name, precedence};
 use ss_base::{Memory, Txt};
 use std::alloc::Global;
@@ -25,8 +24,7 @@ pub fn print(alloc: Global, formula: &Formula) -> Result<Txt, Memory>
     // it is in the grammar and stands for this formula
     ensures reads { IfOk result (λ t. Stands t formula.now (print_nesting formula.now)) }
 {
-    addresses_are_read_back();
-    next_tokens();
+    formulas_are_read_back();
     let mut out = Vec::new(alloc);
     out.push(b'=')?;
     push_tree(&mut out, formula.expr())?;

@@ -1,8 +1,11 @@
-ghost use Rattle.std.specs.Prelude.{◌≡◌, IfOk};
+ghost use Rattle.std.specs.Prelude.{◌≡◌, ◌<◌, ◌^◌, length, IfOk};
 ghost use Rattle.formula_tree.specs.Erase.{tree_of};
+ghost use Rattle.formula_tree.specs.Printed.{formula_text};
+ghost use Rattle.formula_tree.specs.WellFormed.{IsFormula};
 ghost use Rattle.formula_tree.specs.Tree.{pre, bin, call, none, more};
 
-use crate::print;
+use crate::{formulas_are_read_back, print};
+use formula_read::{ParseErr, parse};
 use formula_tree::{BinOp, Expr, Formula, Fun, PreOp};
 use ss_base::{Memory, Seq, Span, Spot, Txt};
 use std::alloc::Global;
@@ -29,6 +32,22 @@ fn called(alloc: Global, fun: Fun, arg: Expr) -> Result<Expr, Memory>
     let mut args = Seq::new(alloc);
     args.push(arg)?;
     Ok(Expr::Call(fun, args))
+}
+
+/// The formula of an expression, printed and read again.
+fn read_back(alloc: Global, expr: Expr) -> Result<Formula, Memory>
+    requires formula { IsFormula (tree_of expr) }
+    requires short { length (formula_text (tree_of expr)) < 2 ^ 24 }
+    ensures { IfOk result (λ f. f ≡ tree_of expr) }
+{
+    formulas_are_read_back();
+    let text = print(alloc, &Formula::new(expr))?;
+    match parse(alloc, &text) {
+        Ok(formula) => Ok(formula),
+        Err(ParseErr::Memory) => Err(Memory),
+        Err(ParseErr::At(_)) => unreachable!(),
+        Err(ParseErr::Deep) => unreachable!(),
+    }
 }
 
 #[test]
@@ -92,5 +111,15 @@ fn doubles_quotes(rt: HostRuntime) -> Result<(), Fail> {
         print(alloc, &formula)?.bytes(),
         b"=\"say \"\"hi\"\"\"".as_slice()
     );
+    Ok(())
+}
+
+#[test]
+fn reads_back_what_it_prints(rt: HostRuntime) -> Result<(), Fail> {
+    let alloc = rt.alloc();
+    let inner = pair(alloc, BinOp::Pow, Expr::Num(2), Expr::Num(3))?;
+    let power = pair(alloc, BinOp::Pow, Expr::Num(1), inner)?;
+    let formula = read_back(alloc, signed(alloc, PreOp::Minus, power)?)?;
+    assert_eq!(rt; print(alloc, &formula)?.bytes(), b"=-(1^(2^3))".as_slice());
     Ok(())
 }
