@@ -1,8 +1,9 @@
-ghost use Rattle.std.specs.Prelude.{◌≡◌, ◌*◌, ◌+◌, ◌-◌, ◌^◌, ◌<◌, ◌≤◌, length};
-ghost use Rattle.formula_tree.specs.Tokens.{is_name_byte, error_name};
+ghost use Rattle.std.specs.Prelude.{◌≡◌, ◌*◌, ◌+◌, ◌-◌, ◌^◌, ◌<◌, length};
+ghost use Rattle.formula_tree.specs.Tokens.{is_name_byte};
 ghost use Rattle.formula_read.specs.Partial.{begun, step, kind_at, corner_step, address_step, name_step, word, numeral_step, quoted_step, hash_step, hash_n_step, error_step};
 
 use crate::kinds::TokenKind;
+use formula_tree::error_name;
 use ss_base::CalcErr;
 
 /// How far a token has come, by the bytes of it that were read.
@@ -168,22 +169,6 @@ fn error_step(e: CalcErr, n: u8, b: u8) -> Option<Partial>
         Some(Partial::Error(e, n + 1))
     } else {
         None
-    }
-}
-
-/// The name of an error as formulas spell it.
-fn error_name(e: CalcErr) -> &'static [u8]
-    ensures name { result.now ≡ error_name e }
-    ensures short { length result.now ≤ 8 }
-{
-    match e {
-        CalcErr::Div0 => b"#DIV/0!",
-        CalcErr::Na => b"#N/A",
-        CalcErr::NoName => b"#NAME?",
-        CalcErr::BadNum => b"#NUM!",
-        CalcErr::Lost => b"#REF!",
-        CalcErr::BadKind => b"#VALUE!",
-        CalcErr::Circ => b"#CIRC!",
     }
 }
 
