@@ -1,14 +1,10 @@
 -- functions by their names
-use Rattle.std.specs.Prelude.{ℕ, List, [], ◌∷◌, Option, Some, None}
+use Rattle.std.specs.Prelude.{ℕ, List, Option, Some, None}
 use Rattle.std.specs.List.{find}
 use Rattle.std.specs.Str.{bytes_eq}
 use Rattle.formula_tree.specs.declared.functions.Fun.{Fun}
-use Rattle.formula_tree.specs.declared.functions.Fun.TheVariants.{Sum, Count, Counta, Min, Max, And, Or, Abs, Sign, Mod, Quotient, If, Not, Iferror, Iserror, Isna, Isblank, Isnumber, Istext, Na, True, False, Len, Left, Right, Mid, Concatenate, Exact, Choose, Index, Match, Vlookup, Countif, Sumif, Sumproduct, Rows, Columns, Unknown}
-use Rattle.formula_tree.specs.Names.{name_of}
-
--- those that have a meaning
-abbrev pub known_functions : List Fun
-known_functions = Sum ∷ Count ∷ Counta ∷ Min ∷ Max ∷ And ∷ Or ∷ Abs ∷ Sign ∷ Mod ∷ Quotient ∷ If ∷ Not ∷ Iferror ∷ Iserror ∷ Isna ∷ Isblank ∷ Isnumber ∷ Istext ∷ Na ∷ True ∷ False ∷ Len ∷ Left ∷ Right ∷ Mid ∷ Concatenate ∷ Exact ∷ Choose ∷ Index ∷ Match ∷ Vlookup ∷ Countif ∷ Sumif ∷ Sumproduct ∷ Rows ∷ Columns ∷ []
+use Rattle.formula_tree.specs.declared.functions.Fun.TheVariants.{Unknown}
+use Rattle.formula_tree.specs.Names.{name_of, known_functions}
 
 abbrev pub found_or_unknown : List ℕ → Option Fun → Fun
 found_or_unknown name (Some fun) = fun

@@ -9,7 +9,7 @@ use Rattle.std.proofs.lemmas.Bool.Decides.{nat_tests}
 use Rattle.std.proofs.lemmas.Slice.Eq.{bytes_eq-Decides}
 use Rattle.formula_tree.specs.declared.functions.Fun.{Fun}
 use Rattle.formula_tree.specs.declared.functions.Fun.TheVariants as fun
-use Rattle.formula_tree.specs.Names.{name_of, is_known}
+use Rattle.formula_tree.specs.Names.{name_of, is_known, known_functions}
 use Rattle.formula_tree.specs.Tokens.{is_name, is_name_byte, upper_case}
 use Rattle.formula_tree.specs.WellFormed.{IsFun}
 
@@ -53,7 +53,7 @@ pub unknown_fun : (bs : List ℕ) → is_name bs ≡ true → ((f : Fun) → is_
 unknown_fun bs h none = (upper_name bs h, upper_twice bs, none)
 
 -- the first of some functions that has a name
-abbrev has_name : List ℕ → Fun → Bool
+abbrev pub has_name : List ℕ → Fun → Bool
 has_name name f = bytes_eq (name_of f) name
 
 found_known : (fs : List Fun) (name : List ℕ) (f : Fun) → list_all is_known fs ≡ true → find (has_name name) fs ≡ Some f → (is_known f ≡ true) × (name_of f ≡ name)
@@ -70,10 +70,7 @@ found_known (g ∷ gs) name f all h =
     by_name false e h known later = later h
 
 -- each known function is the first that has its name
-abbrev all_functions : List Fun
-all_functions = fun.Sum ∷ fun.Count ∷ fun.Counta ∷ fun.Min ∷ fun.Max ∷ fun.And ∷ fun.Or ∷ fun.Abs ∷ fun.Sign ∷ fun.Mod ∷ fun.Quotient ∷ fun.If ∷ fun.Not ∷ fun.Iferror ∷ fun.Iserror ∷ fun.Isna ∷ fun.Isblank ∷ fun.Isnumber ∷ fun.Istext ∷ fun.Na ∷ fun.True ∷ fun.False ∷ fun.Len ∷ fun.Left ∷ fun.Right ∷ fun.Mid ∷ fun.Concatenate ∷ fun.Exact ∷ fun.Choose ∷ fun.Index ∷ fun.Match ∷ fun.Vlookup ∷ fun.Countif ∷ fun.Sumif ∷ fun.Sumproduct ∷ fun.Rows ∷ fun.Columns ∷ []
-
-is_first : (f : Fun) → is_known f ≡ true → find (has_name (name_of f)) all_functions ≡ Some f
+pub is_first : (f : Fun) → is_known f ≡ true → find (has_name (name_of f)) known_functions ≡ Some f
 is_first fun.Sum h = refl
 is_first fun.Count h = refl
 is_first fun.Counta h = refl
@@ -113,12 +110,12 @@ is_first fun.Rows h = refl
 is_first fun.Columns h = refl
 is_first (fun.Unknown n) h = absurd (cc)
 
-pub known_found : (name : List ℕ) (f : Fun) → Some f ≡ find (has_name name) all_functions → (is_known f ≡ true) × (name_of f ≡ name)
-known_found name f e = found_known all_functions name f refl (sym e)
+pub known_found : (name : List ℕ) (f : Fun) → Some f ≡ find (has_name name) known_functions → (is_known f ≡ true) × (name_of f ≡ name)
+known_found name f e = found_known known_functions name f refl (sym e)
 
-pub none_found : (name : List ℕ) → None ≡ find (has_name name) all_functions → (f : Fun) → is_known f ≡ true → name_of f ≢ name
+pub none_found : (name : List ℕ) → None ≡ find (has_name name) known_functions → (f : Fun) → is_known f ≡ true → name_of f ≢ name
 none_found name e f known same =
-    let found : find (has_name name) all_functions ≡ Some f = subst (λ (n : List ℕ). find (has_name n) all_functions ≡ Some f) same (is_first f known) in
+    let found : find (has_name name) known_functions ≡ Some f = subst (λ (n : List ℕ). find (has_name n) known_functions ≡ Some f) same (is_first f known) in
     absurd (let clash : None ≡ Some f = e ∙ found in cc)
 
 -- what holds of a function holds of an equal one

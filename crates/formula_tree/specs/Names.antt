@@ -1,5 +1,5 @@
 -- the names of functions
-use Rattle.std.specs.Prelude.{ℕ, List, codes, Bool, true, false}
+use Rattle.std.specs.Prelude.{ℕ, List, [], ◌∷◌, codes, Bool, true, false}
 use Rattle.formula_tree.specs.declared.functions.Fun.{Fun}
 use Rattle.formula_tree.specs.declared.functions.Fun.TheVariants.{Sum, Count, Counta, Min, Max, And, Or, Abs, Sign, Mod, Quotient, If, Not, Iferror, Iserror, Isna, Isblank, Isnumber, Istext, Na, True, False, Len, Left, Right, Mid, Concatenate, Exact, Choose, Index, Match, Vlookup, Countif, Sumif, Sumproduct, Rows, Columns, Unknown}
 
@@ -48,6 +48,10 @@ name_of (Unknown name) = name
 abbrev pub is_known : Fun → Bool
 is_known (Unknown name) = false
 is_known fun = true
+
+-- all of them
+abbrev pub known_functions : List Fun
+known_functions = Sum ∷ Count ∷ Counta ∷ Min ∷ Max ∷ And ∷ Or ∷ Abs ∷ Sign ∷ Mod ∷ Quotient ∷ If ∷ Not ∷ Iferror ∷ Iserror ∷ Isna ∷ Isblank ∷ Isnumber ∷ Istext ∷ Na ∷ True ∷ False ∷ Len ∷ Left ∷ Right ∷ Mid ∷ Concatenate ∷ Exact ∷ Choose ∷ Index ∷ Match ∷ Vlookup ∷ Countif ∷ Sumif ∷ Sumproduct ∷ Rows ∷ Columns ∷ []
 
 -- one of those that give a number of numbers: totals, counts and arithmetic
 abbrev pub is_numeric : Fun → Bool
