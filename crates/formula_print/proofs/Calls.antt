@@ -8,26 +8,15 @@ use Rattle.std.proofs.lemmas.List.{map_more, take_more, length-map, length-take}
 use Rattle.ss_base.specs.declared.types.Spot.{Spot}
 use Rattle.ss_base.specs.declared.types.Span.{Span}
 use Rattle.formula_tree.specs.declared.functions.Fun.{Fun}
-use Rattle.formula_tree.specs.declared.expression.Expr.{Expr, Call, Row_of-Expr, end_of-Expr, more_of-Expr, items-the_row-Expr, items_hidden-the_row-Expr-0}
-use Rattle.formula_tree.specs.declared.expression.Expr.TheBlock.{hidden-the_row-Expr-0}
+use Rattle.formula_tree.specs.declared.expression.Expr.{Expr, Call}
 use Rattle.formula_tree.specs.Names.{name_of}
-use Rattle.formula_tree.specs.Tree.{Tree, Trees, call, none, more}
-use Rattle.formula_tree.specs.Erase.{tree_of, trees_of}
+use Rattle.formula_tree.specs.Tree.{Tree, trees_from}
+use Rattle.formula_tree.specs.Erase.{tree_of}
 use Rattle.formula_tree.specs.Tokens.{doubled}
 use Rattle.formula_tree.specs.WellFormed.{IsWellFormed, AreWellFormed}
 use Rattle.formula_tree.specs.Printed.{tree_text, argument_texts}
+use Rattle.formula_tree.proofs.Trees.{tree_of-call}
 use Rattle.formula_print.specs.Arguments.{parted_texts}
-
-abbrev pub trees_from : List (Tree Spot Span) → Trees Spot Span
-trees_from [] = none
-trees_from (t ∷ ts) = more t (trees_from ts)
-
-trees_is : {n : _} (row : Row_of-Expr n) → trees_of row ≡ trees_from (map tree_of (items-the_row-Expr n row))
-trees_is end_of-Expr = refl
-trees_is (more_of-Expr e row) = ap (more (tree_of e)) (trees_is row)
-
-pub tree_of-call : (f : Fun) (es : List Expr) → tree_of (Call f es) ≡ call f (trees_from (map tree_of es))
-tree_of-call f es = ap (call f) (trees_is (hidden-the_row-Expr-0 es) ∙ ap (λ (l : List Expr). trees_from (map tree_of l)) (items_hidden-the_row-Expr-0 es))
 
 listed : (es : List Expr) → argument_texts (trees_from (map tree_of es)) ≡ map (λ e. tree_text (tree_of e)) es
 listed [] = refl

@@ -7,13 +7,12 @@ use Rattle.ss_base.specs.declared.types.Span.{Span}
 use Rattle.formula_tree.specs.declared.operators.PreOp.TheVariants.{Plus, Minus}
 use Rattle.formula_tree.specs.declared.operators.BinOp.{BinOp}
 use Rattle.formula_tree.specs.declared.functions.Fun.{Fun}
-use Rattle.formula_tree.specs.Tree.{Tree, Trees}
+use Rattle.formula_tree.specs.Tree.{Tree, Trees, trees_from}
 use Rattle.formula_tree.specs.Tree as tree
 use Rattle.formula_tree.specs.Precedence.{precedence_of_operator}
 use Rattle.formula_tree.specs.Tokens.{Token, sign, opening, closing, semicolon}
 use Rattle.formula_tree.specs.Grammar.{Derives, Arguments, Listed, operator_of_sign}
 use Rattle.formula_tree.specs.Grammar as grammar
-use Rattle.formula_tree.proofs.Trees.{trees_from}
 use Rattle.formula_read.specs.declared.stack.Frame.{Frame}
 use Rattle.formula_read.specs.declared.stack.Frame.TheVariants.{Sign, Left, Group, Call}
 use Rattle.formula_read.specs.Nested.{Nested, NestedList, no_arguments, with_argument}

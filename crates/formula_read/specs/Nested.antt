@@ -5,8 +5,7 @@ use Rattle.ss_base.specs.declared.types.Span.{Span}
 use Rattle.formula_tree.specs.declared.operators.PreOp.{PreOp}
 use Rattle.formula_tree.specs.declared.operators.BinOp.{BinOp}
 use Rattle.formula_tree.specs.declared.functions.Fun.{Fun}
-use Rattle.formula_tree.specs.Tree.{Tree, pre, bin, call}
-use Rattle.formula_tree.proofs.Trees.{trees_from}
+use Rattle.formula_tree.specs.Tree.{Tree, pre, bin, call, trees_from}
 use Rattle.formula_read.specs.declared.kinds.ParseErr.{ParseErr}
 use Rattle.formula_read.specs.declared.kinds.ParseErr.TheVariants.{At, Deep, Memory}
 use Rattle.formula_read.specs.declared.stop.Stop.{Stop}

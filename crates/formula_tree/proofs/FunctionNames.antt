@@ -71,44 +71,8 @@ found_known (g ∷ gs) name f all h =
 
 -- each known function is the first that has its name
 pub is_first : (f : Fun) → is_known f ≡ true → find (has_name (name_of f)) known_functions ≡ Some f
-is_first fun.Sum h = refl
-is_first fun.Count h = refl
-is_first fun.Counta h = refl
-is_first fun.Min h = refl
-is_first fun.Max h = refl
-is_first fun.And h = refl
-is_first fun.Or h = refl
-is_first fun.Abs h = refl
-is_first fun.Sign h = refl
-is_first fun.Mod h = refl
-is_first fun.Quotient h = refl
-is_first fun.If h = refl
-is_first fun.Not h = refl
-is_first fun.Iferror h = refl
-is_first fun.Iserror h = refl
-is_first fun.Isna h = refl
-is_first fun.Isblank h = refl
-is_first fun.Isnumber h = refl
-is_first fun.Istext h = refl
-is_first fun.Na h = refl
-is_first fun.True h = refl
-is_first fun.False h = refl
-is_first fun.Len h = refl
-is_first fun.Left h = refl
-is_first fun.Right h = refl
-is_first fun.Mid h = refl
-is_first fun.Concatenate h = refl
-is_first fun.Exact h = refl
-is_first fun.Choose h = refl
-is_first fun.Index h = refl
-is_first fun.Match h = refl
-is_first fun.Vlookup h = refl
-is_first fun.Countif h = refl
-is_first fun.Sumif h = refl
-is_first fun.Sumproduct h = refl
-is_first fun.Rows h = refl
-is_first fun.Columns h = refl
 is_first (fun.Unknown n) h = absurd (cc)
+is_first f h = refl
 
 pub known_found : (name : List ℕ) (f : Fun) → Some f ≡ find (has_name name) known_functions → (is_known f ≡ true) × (name_of f ≡ name)
 known_found name f e = found_known known_functions name f refl (sym e)

@@ -7,13 +7,13 @@ use Rattle.ss_base.specs.declared.types.Spot.{Spot}
 use Rattle.ss_base.specs.declared.types.Span.{Span}
 use Rattle.formula_tree.specs.declared.functions.Fun.{Fun}
 use Rattle.formula_tree.specs.declared.expression.Expr.{Expr, Call}
-use Rattle.formula_tree.specs.Tree.{Tree, Trees, num, text, fault, cell, range, pre, bin, call, none, more}
+use Rattle.formula_tree.specs.Tree.{Tree, Trees, num, text, fault, cell, range, pre, bin, call, none, more, trees_from}
 use Rattle.formula_tree.specs.Precedence.{precedence_of, precedence_of_operator}
 use Rattle.formula_tree.specs.Measures.{print_nesting, greatest_nesting, placed_nesting, node_count, node_counts, byte_count, byte_counts, name_bytes, weight_of}
 use Rattle.formula_tree.specs.Remap.{Images, mapped, remap_trees, remap_spot, remap_span, cell_or_lost, range_or_lost}
 use Rattle.formula_tree.specs.Erase.{tree_of}
 use Rattle.formula_tree.specs.Lists.{nesting_of_all, weight_of_all}
-use Rattle.formula_tree.proofs.Trees.{trees_from, tree_of-call}
+use Rattle.formula_tree.proofs.Trees.{tree_of-call}
 
 max_assoc : (a b c : ℕ) → max a (max b c) ≡ max (max a b) c
 max_assoc a b c = omega arith

@@ -6,13 +6,9 @@ use Rattle.ss_base.specs.declared.types.Span.{Span}
 use Rattle.formula_tree.specs.declared.functions.Fun.{Fun}
 use Rattle.formula_tree.specs.declared.expression.Expr.{Expr, Call, Row_of-Expr, end_of-Expr, more_of-Expr, items-the_row-Expr, items_hidden-the_row-Expr-0}
 use Rattle.formula_tree.specs.declared.expression.Expr.TheBlock.{hidden-the_row-Expr-0}
-use Rattle.formula_tree.specs.Tree.{Tree, Trees, call, none, more}
+use Rattle.formula_tree.specs.Tree.{Tree, call, more, trees_from}
 use Rattle.formula_tree.specs.Remap.{Images, mapped, remap_trees, remap_spot, remap_span}
 use Rattle.formula_tree.specs.Erase.{tree_of, trees_of}
-
-abbrev pub trees_from : List (Tree Spot Span) → Trees Spot Span
-trees_from [] = none
-trees_from (t ∷ ts) = more t (trees_from ts)
 
 trees_is : {n : _} (row : Row_of-Expr n) → trees_of row ≡ trees_from (map tree_of (items-the_row-Expr n row))
 trees_is end_of-Expr = refl

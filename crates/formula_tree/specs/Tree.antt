@@ -1,5 +1,5 @@
 -- Formulas as plain trees, whatever a reference is.
-use Rattle.std.specs.Prelude.{ℕ, ℤ, List}
+use Rattle.std.specs.Prelude.{ℕ, ℤ, List, [], ◌∷◌}
 use Rattle.ss_base.specs.declared.types.CalcErr.{CalcErr}
 use Rattle.formula_tree.specs.declared.operators.PreOp.{PreOp}
 use Rattle.formula_tree.specs.declared.operators.BinOp.{BinOp}
@@ -20,6 +20,11 @@ mutual
   pub data Trees (C R : Type 0) : Type 0 where
     none : Trees C R
     more : Tree C R → Trees C R → Trees C R
+
+-- those of a list
+abbrev pub trees_from : {C R : Type 0} → List (Tree C R) → Trees C R
+trees_from [] = none
+trees_from (t ∷ ts) = more t (trees_from ts)
 
 -- each reference replaced by its image
 module _ {C R D S : Type 0} (f : C → D) (g : R → S) where

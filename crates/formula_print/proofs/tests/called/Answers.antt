@@ -2,8 +2,8 @@ use Rattle.std.proofs.Common.{List, ap, ◌∙◌}
 use Rattle.std.specs.Prelude.{map}
 use Rattle.formula_tree.specs.declared.expression.Expr.{Expr}
 use Rattle.formula_tree.specs.Erase.{tree_of}
-use Rattle.formula_tree.specs.Tree.{call}
-use Rattle.formula_print.proofs.Calls.{trees_from, tree_of-call}
+use Rattle.formula_tree.specs.Tree.{call, trees_from}
+use Rattle.formula_tree.proofs.Trees.{tree_of-call}
 use Rattle.formula_print.proofs.tests.called.Goals as goal
 
 pub returns : goal.returns
