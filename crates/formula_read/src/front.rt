@@ -80,16 +80,28 @@ mod tests {
     use std::test::Fail;
 
     #[test]
-    fn says_where_a_text_stops_being_a_front(rt: HostRuntime) -> Result<(), Fail> {
-        let answers: [(&[u8], Option<u32>); 41] = [
+    fn says_where_signs_and_numerals_stop(rt: HostRuntime) -> Result<(), Fail> {
+        let answers: [(&[u8], Option<u32>); 9] = [
             (b"", Some(0)),
             (b" =1", Some(0)),
             (b"=", Some(1)),
             (b"==1", Some(1)),
             (b"=1", None),
             (b"=1+", Some(3)),
+            (b"=1< >2", Some(4)),
+            (b"=1\n", Some(2)),
             (b"=99999999999999999999", Some(19)),
-            (b"=SUM (1)", Some(4)),
+        ];
+        for (text, answer) in answers {
+            assert!(rt; text.len() < 100);
+            assert_eq!(rt; refusal(rt.alloc(), text)?, answer);
+        }
+        Ok(())
+    }
+
+    #[test]
+    fn says_where_addresses_stop(rt: HostRuntime) -> Result<(), Fail> {
+        let answers: [(&[u8], Option<u32>); 13] = [
             (b"=A1B", Some(4)),
             (b"=$A1B", Some(4)),
             (b"=A12345678", Some(10)),
@@ -102,7 +114,19 @@ mod tests {
             (b"=A1:B(", Some(5)),
             (b"=A1: B2", Some(4)),
             (b"= A1 : B2", Some(5)),
-            (b"=1< >2", Some(4)),
+            (b"= SUM( XFD1:A1 ; - 1 ) <> $A$1:b$2 ", None),
+        ];
+        for (text, answer) in answers {
+            assert!(rt; text.len() < 100);
+            assert_eq!(rt; refusal(rt.alloc(), text)?, answer);
+        }
+        Ok(())
+    }
+
+    #[test]
+    fn says_where_calls_and_brackets_stop(rt: HostRuntime) -> Result<(), Fail> {
+        let answers: [(&[u8], Option<u32>); 11] = [
+            (b"=SUM (1)", Some(4)),
             (b"=IF((C2<D6);)", Some(12)),
             (b"=IF ((C2<D6);)", Some(3)),
             (b"=A1()", None),
@@ -111,6 +135,19 @@ mod tests {
             (b"=(1;2)", Some(3)),
             (b"=1)", Some(2)),
             (b"=(1", Some(3)),
+            (b"=abcdefghijklmnopqrstuvwxyzabcdef()", None),
+            (b"=abcdefghijklmnopqrstuvwxyzabcdefg()", Some(33)),
+        ];
+        for (text, answer) in answers {
+            assert!(rt; text.len() < 100);
+            assert_eq!(rt; refusal(rt.alloc(), text)?, answer);
+        }
+        Ok(())
+    }
+
+    #[test]
+    fn says_where_errors_and_texts_stop(rt: HostRuntime) -> Result<(), Fail> {
+        let answers: [(&[u8], Option<u32>); 8] = [
             (b"=#", Some(2)),
             (b"=#N", Some(3)),
             (b"=#N/", Some(4)),
@@ -119,10 +156,6 @@ mod tests {
             (b"=#n", Some(2)),
             (b"=\"\"\"\"", None),
             (b"=\"a\"\"", Some(5)),
-            (b"=abcdefghijklmnopqrstuvwxyzabcdef()", None),
-            (b"=abcdefghijklmnopqrstuvwxyzabcdefg()", Some(33)),
-            (b"= SUM( XFD1:A1 ; - 1 ) <> $A$1:b$2 ", None),
-            (b"=1\n", Some(2)),
         ];
         for (text, answer) in answers {
             assert!(rt; text.len() < 100);
