@@ -2,7 +2,7 @@ mod Counting
 mod Floors
 mod Found
 mod Joined
-mod Limits
+pub mod Limits
 mod Shapes
 mod Steps
 mod Walks

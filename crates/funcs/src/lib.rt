@@ -22,6 +22,8 @@ pub use calls::{
     istext_fn, left_fn, len_fn, match_fn, max_fn, mid_fn, min_fn, mod_fn, na_fn, not_fn, or_fn,
     quotient_fn, right_fn, rows_fn, sign_fn, sum_fn, sumif_fn, sumproduct_fn, true_fn, vlookup_fn,
 };
+pub use number::{divisor, number_value, truth};
+pub use stop::answer;
 
 #[cfg(test)]
 mod tests;

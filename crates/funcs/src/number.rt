@@ -14,21 +14,23 @@ pub(crate) fn in_range(n: i128) -> Result<i64, CalcErr>
     }
 }
 
-pub(crate) fn number_value(n: i128) -> Result<Value, CalcErr>
+/// A number as a value; one outside 64 bits is `#NUM!`.
+pub fn number_value(n: i128) -> Result<Value, CalcErr>
     ensures { result ≡ number_value n }
 {
     let n = in_range(n)?;
     Ok(Value::Num(n))
 }
 
-pub(crate) fn truth(b: bool) -> Value
+/// 1 for true, 0 for false.
+pub fn truth(b: bool) -> Value
     ensures { result ≡ truth b }
 {
     Value::Num(i64::from(b))
 }
 
-/// A number that isn't 0.
-pub(crate) fn divisor(n: i64) -> Result<i64, CalcErr>
+/// A number that isn't 0, which is `#DIV/0!`.
+pub fn divisor(n: i64) -> Result<i64, CalcErr>
     ensures { result ≡ divisor n }
 {
     if n == 0 {

@@ -48,7 +48,7 @@ impl From<AllocError> for Stop {
 }
 
 /// The value, or the error as a value.
-pub(crate) fn answer(outcome: Result<Value, CalcErr>) -> Value
+pub fn answer(outcome: Result<Value, CalcErr>) -> Value
     ensures { result ≡ answer outcome }
 {
     match outcome {
