@@ -19,14 +19,15 @@ use Rattle.sheet_ops.specs.declared.content.Content.TheVariants as content
 use Rattle.sheet_ops.specs.declared.edit.EditErr.{EditErr}
 use Rattle.sheet_ops.specs.declared.edit.EditErr.TheVariants as fault
 use Rattle.sheet_ops.proofs.References.{always}
+use Rattle.sheet_ops.proofs.Visible.{visible_below}
 use Rattle.author_ops.specs.Entries.{typed, formula_entered}
-use Rattle.author_ops.proofs.Intended.{seen_below, pair_below}
+use Rattle.author_ops.proofs.Intended.{pair_below}
 
 -- a sheet that is not too large has positions that an address can spell
 pub typed_mapped : (rows cols : List Bool) → length rows ≤ 16000 → length cols ≤ 16000 → (t : Tree Spot Span) → IsMapped (typed rows cols) t
 typed_mapped rows cols r c t =
     always (IsSpotMapped (typed rows cols)) (IsSpanMapped (typed rows cols))
-    (λ s row col e f. (let h = seen_below rows s.row row e in omega arith, let h = seen_below cols s.col col f in omega arith))
+    (λ s row col e f. (let h = visible_below rows s.row row e in omega arith, let h = visible_below cols s.col col f in omega arith))
     (λ s rs cs e f.
     let h = pair_below rows s.top s.bottom rs e in
     let k = pair_below cols s.left s.right cs f in

@@ -1,5 +1,5 @@
 -- What an edit denotes fits the sheet on which it was made.
-use Rattle.std.proofs.Common.{◌≡◌, ℕ, zero, suc, ◌+◌, ◌<◌, Bool, true, false, cond, List, [], ◌∷◌, ◌-◌, ◌^◌, length, refl, ap, subst, arith, Some, None, Option, Ok, Err}
+use Rattle.std.proofs.Common.{◌≡◌, ℕ, ◌<◌, Bool, true, false, cond, List, [], ◌∷◌, ◌-◌, ◌^◌, length, refl, ap, subst, arith, Some, None, Option, Ok, Err}
 use Rattle.std.specs.Prelude.{ℤ, min, nat_eq, nat_lt, nat_le, slice_get, Result}
 use Rattle.std.specs.Option.{option_and_then, option_map}
 use Rattle.ss_base.specs.declared.types.Size.{Size}
@@ -17,24 +17,15 @@ use Rattle.sheet_ops.specs.declared.edit.EditErr.{EditErr}
 use Rattle.sheet_ops.specs.declared.edit.EditErr.TheVariants as fault
 use Rattle.sheet_ops.specs.declared.operation.Intent.{Intent}
 use Rattle.sheet_ops.specs.Fits.{IntentFits, ContentFits, CellFits, RangeFits, IsInside}
-use Rattle.sheet_ops.specs.Lines.{visible_from, visible_places}
+use Rattle.sheet_ops.specs.Lines.{visible_places}
 use Rattle.sheet_ops.specs.Placed.{PlacedSheet, placed_size}
 use Rattle.sheet_ops.specs.Numerals.{is_numeral}
 use Rattle.sheet_ops.specs.Weights.{weight_of_intent}
 use Rattle.sheet_ops.proofs.References.{images_each}
+use Rattle.sheet_ops.proofs.Visible.{visible_below}
 use Rattle.author_ops.specs.Numbers.{number_of, number_front}
 use Rattle.author_ops.specs.Entries.{pair_seen, typed, formula_entered, number_entered, entered}
 use Rattle.author_ops.specs.Edits.{place_seen, write_one, unless_heavy, written_at, intended_by}
-
--- a visible position is one of the list
-visible_below : (first : ℕ) (ms : List Bool) (i p : ℕ) → slice_get (visible_from first ms) i ≡ Some p → p < first + length ms
-visible_below first [] i p e = absurd (cc)
-visible_below first (true ∷ ms) i p e = let h = visible_below (suc first) ms i p e in omega arith
-visible_below first (false ∷ ms) zero p e = let same : first ≡ p = cc in omega arith
-visible_below first (false ∷ ms) (suc i) p e = let h = visible_below (suc first) ms i p e in omega arith
-
-pub seen_below : (ms : List Bool) (i p : ℕ) → slice_get (visible_places ms) i ≡ Some p → p < length ms
-seen_below ms i p e = let h = visible_below 0 ms i p e in omega arith
 
 -- both of two positions
 pub both_below : (first last n : ℕ) (a b : Option ℕ) (x y : ℕ) → ◌≡◌ {A = Option (ℕ × ℕ)} (option_and_then (λ p. option_map (λ q. (p, q)) b) a) (Some (x, y)) →
@@ -49,7 +40,7 @@ both_below first last n (Some p) (Some q) x y e f g =
 
 pub pair_below : (ms : List Bool) (first last : ℕ) (pq : ℕ × ℕ) → pair_seen ms first last ≡ Some pq → (pq.0 < length ms) × (pq.1 < length ms)
 pair_below ms first last (x, y) e =
-    both_below (length ms) (length ms) (length ms) (slice_get (visible_places ms) first) (slice_get (visible_places ms) last) x y e (seen_below ms first) (seen_below ms last)
+    both_below (length ms) (length ms) (length ms) (slice_get (visible_places ms) first) (slice_get (visible_places ms) last) x y e (visible_below ms first) (visible_below ms last)
 
 -- ---- typed references
 module _ (P : PlacedSheet) where
@@ -94,7 +85,7 @@ module _ (P : PlacedSheet) where
           let same : content.Formula (mapped (typed P.rows P.cols) t) ≡ c = cc in
           subst (λ (x : Content). ContentFits size x) same
           (images_each (CellFits size) (RangeFits size) (remap_spot (typed P.rows P.cols)) (remap_span (typed P.rows P.cols))
-          (λ s d k. cell_inside s d _ _ k (seen_below P.rows s.row) (seen_below P.cols s.col))
+          (λ s d k. cell_inside s d _ _ k (visible_below P.rows s.row) (visible_below P.cols s.col))
           (λ s r k. range_inside s r _ _ k (pair_below P.rows s.top s.bottom) (pair_below P.cols s.left s.right)) t)
 
   -- ---- entries
@@ -137,7 +128,7 @@ module _ (P : PlacedSheet) where
 
   place_inside : (spot : Spot) (p : ℕ × ℕ) → place_seen P.rows P.cols spot ≡ Some p → IsInside size p.0 p.1
   place_inside spot (x, y) e =
-      both_below (length P.rows) (length P.cols) (length P.rows) (slice_get (visible_places P.rows) spot.row) (slice_get (visible_places P.cols) spot.col) x y e (seen_below P.rows spot.row) (seen_below P.cols spot.col)
+      both_below (length P.rows) (length P.cols) (length P.rows) (slice_get (visible_places P.rows) spot.row) (slice_get (visible_places P.cols) spot.col) x y e (visible_below P.rows spot.row) (visible_below P.cols spot.col)
 
 pub intended-fits : (P : PlacedSheet) (e : Edit) (op : Intent) → intended_by P.rows P.cols e ≡ Ok op → IntentFits (placed_size P) op
 intended-fits P (edit.Set spot entry) op e = written_fits P (place_seen P.rows P.cols spot) (entered P.rows P.cols entry) op e (place_inside P spot) (entered_inside P entry)

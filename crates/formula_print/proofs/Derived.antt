@@ -1,10 +1,8 @@
 -- the tokens of a tree form the tree, with its print nesting
-use Rattle.std.proofs.Common.{◌≡◌, ℕ, zero, suc, ◌+◌, ◌-◌, ◌≤◌, Bool, true, false, cond, nat_lt, pos, negsuc, List, [], ◌∷◌, ◌++◌, refl, subst, arith}
+use Rattle.std.proofs.Common.{◌≡◌, ℕ, suc, ◌≤◌, Bool, true, false, cond, nat_lt, pos, negsuc, List, [], ◌∷◌, ◌++◌, refl, subst, arith}
 use Rattle.std.proofs.lemmas.Bool.Decides.{nat_tests}
 use Rattle.ss_base.specs.declared.types.Spot.{Spot}
 use Rattle.ss_base.specs.declared.types.Span.{Span}
-use Rattle.formula_tree.specs.declared.operators.BinOp.{BinOp}
-use Rattle.formula_tree.specs.declared.operators.BinOp.TheVariants.{Pow, Mul, Div, Add, Sub, Join, Eq, Ne, Lt, Le, Gt, Ge}
 use Rattle.formula_tree.specs.Tree.{Tree, Trees, num, text, fault, cell, range, pre, bin, call, none, more}
 use Rattle.formula_tree.specs.Precedence.{precedence_of, precedence_of_operator}
 use Rattle.formula_tree.specs.Measures.{print_nesting, placed_nesting, greatest_nesting}
@@ -13,21 +11,8 @@ use Rattle.formula_tree.specs.Tokens as token
 use Rattle.formula_tree.specs.Grammar.{Derives, Arguments, Listed}
 use Rattle.formula_tree.specs.Grammar as grammar
 use Rattle.formula_tree.specs.WellFormed.{IsWellFormed, AreWellFormed}
+use Rattle.formula_read.proofs.Syntax.{least_precedence, most_precedence, looser}
 use Rattle.formula_print.proofs.TreeTokens.{placed_tokens, parted_tokens, tree_tokens, argument_tokens}
-
-operator_within : (op : BinOp) → (1 ≤ precedence_of_operator op) × (precedence_of_operator op ≤ 5)
-operator_within Pow = (omega arith, omega arith)
-operator_within Mul = (omega arith, omega arith)
-operator_within Div = (omega arith, omega arith)
-operator_within Add = (omega arith, omega arith)
-operator_within Sub = (omega arith, omega arith)
-operator_within Join = (omega arith, omega arith)
-operator_within Eq = (omega arith, omega arith)
-operator_within Ne = (omega arith, omega arith)
-operator_within Lt = (omega arith, omega arith)
-operator_within Le = (omega arith, omega arith)
-operator_within Gt = (omega arith, omega arith)
-operator_within Ge = (omega arith, omega arith)
 
 precedence_some : (t : Tree Spot Span) → 1 ≤ precedence_of t
 precedence_some (num n) = omega arith
@@ -36,16 +21,8 @@ precedence_some (fault e) = omega arith
 precedence_some (cell c) = omega arith
 precedence_some (range r) = omega arith
 precedence_some (pre op t) = omega arith
-precedence_some (bin op s t) = (operator_within op).0
+precedence_some (bin op s t) = least_precedence op
 precedence_some (call f ts) = omega arith
-
--- what binds more tightly does for a looser place
-looser_by : {ts : List Token} {t : Tree Spot Span} {n : ℕ} (k p : ℕ) → Derives (k + p) ts t n → Derives p ts t n
-looser_by {ts} {t} {n} zero p d = subst (λ (q : ℕ). Derives q ts t n) (omega arith) d
-looser_by {ts} {t} {n} (suc k) p d = grammar.tighter (looser_by k (suc p) (subst (λ (q : ℕ). Derives q ts t n) (omega arith) d))
-
-looser : {ts : List Token} {t : Tree Spot Span} {n : ℕ} (p q : ℕ) → p ≤ q → Derives q ts t n → Derives p ts t n
-looser {ts} {t} {n} p q h d = looser_by (q - p) p (subst (λ (r : ℕ). Derives r ts t n) (omega arith) d)
 
 placed : {ts : List Token} {t : Tree Spot Span} {n : ℕ} (wanted precedence : ℕ) → wanted ≤ 7 → 1 ≤ precedence → Derives precedence ts t n →
     Derives wanted (placed_tokens wanted precedence ts) t (placed_nesting wanted precedence n)
@@ -79,7 +56,7 @@ mutual
   derives (range r) w = grammar.range
   derives (pre op t) w = grammar.prefix (placed 6 (precedence_of t) (omega arith) (precedence_some t) (derives t w))
   derives (bin op s t) w =
-      let (_, most) = operator_within op in
+      let most = most_precedence op in
       grammar.binary
       (placed (precedence_of_operator op) (precedence_of s) (omega arith) (precedence_some s) (derives s w.0))
       (placed (suc (precedence_of_operator op)) (precedence_of t) (omega arith) (precedence_some t) (derives t w.1))

@@ -115,12 +115,13 @@ least_precedence Le = omega arith
 least_precedence Gt = omega arith
 least_precedence Ge = omega arith
 
+-- what binds more tightly does for a looser place
 module _ {n : ℕ} {ts : List Token} {t : Tree Spot Span} where
   looser_by : (k p q : ℕ) → q ≡ k + p → Derives q ts t n → Derives p ts t n
   looser_by zero p q e d = subst (λ (m : ℕ). Derives m ts t n) (let f : q ≡ p = omega arith in f) d
   looser_by (suc k) p q e d = grammar.tighter (looser_by k (suc p) q (omega arith) d)
 
-  looser : (p q : ℕ) → p ≤ q → Derives q ts t n → Derives p ts t n
+  pub looser : (p q : ℕ) → p ≤ q → Derives q ts t n → Derives p ts t n
   looser p q h d = looser_by (q - p) p q (omega arith) d
 
 -- an expression goes on with an operator and an operand

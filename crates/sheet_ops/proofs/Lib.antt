@@ -3,3 +3,4 @@ pub mod Written
 pub mod Overwritten
 pub mod Views
 pub mod References
+pub mod Visible

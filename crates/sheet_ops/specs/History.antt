@@ -1,6 +1,7 @@
 -- The history: every entry means what it meant on the sheet that its author saw.
-use Rattle.std.specs.Prelude.{ℕ, suc, ◌≡◌, ◌<◌, ◌≤◌, nat_eq, nat_le, if◌then◌else◌, List, [], ◌∷◌, ◌++◌, length, take, filter, sum_by, reverse, ◌⊎◌}
+use Rattle.std.specs.Prelude.{ℕ, suc, ◌<◌, ◌≤◌, nat_eq, nat_le, if◌then◌else◌, List, [], ◌∷◌, ◌++◌, length, take, filter, sum_by, reverse, ◌⊎◌}
 use Rattle.ss_base.specs.declared.types.Size.{Size}
+use Rattle.ss_base.specs.Lists.{IsPrefixOf}
 use Rattle.sheet_ops.specs.declared.operation.Entry.{Entry}
 use Rattle.sheet_ops.specs.Identity.{IdOp, IdSheet, opened}
 use Rattle.sheet_ops.specs.Act.{acts, acts_each}
@@ -46,9 +47,6 @@ view size H site taken G = view_of size H (resolved size H) site taken (reverse 
 -- the sheet after the whole history
 abbrev pub sheet_of : Size → List Entry → IdSheet
 sheet_of size H = acts_each (opened size) (resolved size H)
-
-abbrev pub IsPrefixOf : {A : Type 0} → List A → List A → Type 0
-IsPrefixOf {A} xs ys = (rest : List A) × (xs ++ rest ≡ ys)
 
 -- what each own entry had seen never falls and is at most a bound, the last entry first
 abbrev pub SeenRises : ℕ → List Entry → Type 0

@@ -171,12 +171,6 @@ seen_mapped P r c t =
     ((omega arith, omega arith), (omega arith, omega arith))) t
 
 -- ---- row by row
-pub place_within : (first : ℕ) (ms : List Bool) (k place : ℕ) → slice_get (visible_from first ms) k ≡ Some place → place < first + length ms
-place_within first [] k place e = absurd (cc)
-place_within first (true ∷ ms) k place e = let h = place_within (suc first) ms k place e in omega (arith, h)
-place_within first (false ∷ ms) zero place e = let same : first ≡ place = cc in omega (arith, same)
-place_within first (false ∷ ms) (suc k) place e = let h = place_within (suc first) ms k place e in omega (arith, h)
-
 rows_from : (f : ℕ → List (List ℕ)) (places : List ℕ) (k place : ℕ) → slice_get places k ≡ Some place → lines_from k (drop k (map f places)) ≡ row_lines k 0 (f place) ++ lines_from (suc k) (drop (suc k) (map f places))
 rows_from f places k place e = ap (λ (rs : List (List (List ℕ))). lines_from k rs) (at places k e)
   where

@@ -7,7 +7,8 @@ use Rattle.std.proofs.lemmas.List.Elements.{All-cons, All-nil, filter-append}
 use Rattle.std.proofs.lemmas.Bool.Decides.{nat_tests}
 use Rattle.turn_book.specs.declared.kept.Made.{Made}
 use Rattle.turn_book.specs.declared.turns.Standing.{Standing}
-use Rattle.turn_book.specs.Entries.{IsPrefixOf, made_by, entries_of}
+use Rattle.ss_base.specs.Lists.{IsPrefixOf}
+use Rattle.turn_book.specs.Entries.{made_by, entries_of}
 use Rattle.turn_book.specs.Turns.{Follows, after_hold}
 
 pub whole : {A : Type 0} (xs : List A) → IsPrefixOf xs xs

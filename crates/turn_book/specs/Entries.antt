@@ -1,10 +1,6 @@
 -- The entries of a history, by the passes that made them.
-use Rattle.std.specs.Prelude.{◌≡◌, ℕ, ◌+◌, List, [], ◌∷◌, ◌++◌, filter, nat_eq}
+use Rattle.std.specs.Prelude.{ℕ, ◌+◌, List, [], ◌∷◌, filter, nat_eq}
 use Rattle.turn_book.specs.declared.kept.Made.{Made}
-
--- a beginning of a list
-abbrev pub IsPrefixOf : {A : Type 0} → List A → List A → Type 0
-IsPrefixOf {A} xs ys = (rest : List A) × (xs ++ rest ≡ ys)
 
 module _ {I : Type 0} where
   -- the entries that the pass of this number made, in their order

@@ -5,7 +5,8 @@ use mathlib.Core.Option as maybe
 use lib.ListN.{get_elem?}
 use Rattle.atomic_table.specs.Table.{State, Me, Step}
 use Rattle.atomic_table.specs.Seated.{TableId}
-use Rattle.turn_book.specs.Entries.{IsPrefixOf, made_by, entries_of}
+use Rattle.ss_base.specs.Lists.{IsPrefixOf}
+use Rattle.turn_book.specs.Entries.{made_by, entries_of}
 use Rattle.turn_book.specs.Passes.{BookId, PassOf}
 use Rattle.turn_book.specs.declared.kept.Made.{Made}
 use Rattle.turn_book.specs.declared.turns.Standing.{Standing}

@@ -59,7 +59,8 @@ impl<S: Kept + Drop> Book<S> {
 
 impl<S: Kept> Book<S> {
     ghost use Rattle.std.specs.Prelude.{◌≡◌, ◌≢◌, ◌<◌, [], All, Contains, OnOk, OnErr, IfOk, IfErr, map};
-    ghost use Rattle.turn_book.specs.Entries.{IsPrefixOf, made_by, entries_of};
+    ghost use Rattle.ss_base.specs.Lists.{IsPrefixOf};
+    ghost use Rattle.turn_book.specs.Entries.{made_by, entries_of};
     ghost use Rattle.turn_book.specs.Passes.{AreOf, AreAll};
 
     /// Takes the state as soon as no other pass has it; until then the thread sleeps. The pass has to

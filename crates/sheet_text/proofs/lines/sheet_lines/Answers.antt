@@ -1,9 +1,10 @@
 use Rattle.std.proofs.Common.{◌≡◌, ◌∙◌, ℕ, List, [], ◌∷◌, ◌++◌, length, ap, sym, arith, append_assoc}
 use Rattle.ss_base.specs.declared.types.Size.{Size}
 use Rattle.sheet_ops.specs.Lines.{visible_places}
+use Rattle.sheet_ops.proofs.Visible.{visible_below}
 use Rattle.sheet_text.specs.Shown.{shown_placed}
 use Rattle.sheet_text.specs.Texts.{cell_lines, sheet_text}
-use Rattle.sheet_text.proofs.Rest.{place_within, row_texts, rows_more, rows_all}
+use Rattle.sheet_text.proofs.Rest.{row_texts, rows_more, rows_all}
 use Rattle.sheet_text.proofs.lines.sheet_lines.Goals as goal
 
 pub loop-visible-init : goal.loop-visible-init
@@ -12,7 +13,7 @@ loop-visible-init c =
     ∙ append_assoc c.args.head.now (10 ∷ []) (cell_lines (shown_placed c.args.sheet.now))
 
 pub push_row-requires-clause-row : goal.push_row-requires-clause-row
-push_row-requires-clause-row c = let h = place_within 0 c.args.sheet.now.rows c.loop-visible.visible c.in-Some.row (sym c.in-Some.ensures) in omega (arith, h)
+push_row-requires-clause-row c = visible_below c.args.sheet.now.rows c.loop-visible.visible c.in-Some.row (sym c.in-Some.ensures)
 
 pub loop-visible-preserved : goal.loop-visible-preserved
 loop-visible-preserved c =

@@ -1,7 +1,8 @@
 use Rattle.std.proofs.Common.{◌≡◌, ◌≢◌, ◌<◌, ℕ, [], map, sym, ap, subst, ◌∙◌}
 use Rattle.std.specs.Prelude.{IsPermutation}
 use Rattle.std.specs.List.{range_with_len}
-use Rattle.turn_book.specs.Entries.{IsPrefixOf, made_by, entries_of}
+use Rattle.ss_base.specs.Lists.{IsPrefixOf}
+use Rattle.turn_book.specs.Entries.{made_by, entries_of}
 use Rattle.turn_book.proofs.Closing.{all_there, each_of, holds_are, none_else, not_all}
 use Rattle.turn_book.proofs.book.Book.close.Goals as goal
 
