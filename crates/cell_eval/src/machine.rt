@@ -1,6 +1,5 @@
 ghost use Rattle.std.specs.Prelude.{◌≡◌, ◌≢◌, List, [], ◌∷◌, Some, IsSome, IfOk, drop};
 ghost use Rattle.funcs.specs.declared.arg.Arg.{Arg};
-ghost use Rattle.funcs.specs.declared.arg.Arg.TheVariants as arg;
 ghost use Rattle.funcs.specs.Args.{value_of, number};
 ghost use Rattle.cell_eval.specs.Machine.{tested, moved, run};
 
@@ -40,50 +39,44 @@ fn perform<L: Look>(alloc: Global, step: &Step, stack: &mut Stack, look: &L) -> 
     ensures { IfOk result (λ passed. moved (L.environment look.now) step.now stack.old ≡ Some (passed, stack.new)) }
 {
     match step {
-        Step::Num(n) => put(stack, Value::Num(*n)),
+        Step::Num(n) => put(stack, Arg::One(Value::Num(*n))),
         Step::Text(t) => {
             let t = t.copy()?;
-            put(stack, text_value(t))
+            put(stack, Arg::One(text_value(t)))
         }
-        Step::Fault(e) => put(stack, Value::Err(*e)),
-        Step::Cell(spot) => {
-            stack.push(Arg::At(*spot))?;
-            Ok(0)
-        }
-        Step::Range(span) => {
-            stack.push(Arg::Over(*span))?;
-            Ok(0)
-        }
+        Step::Fault(e) => put(stack, Arg::One(Value::Err(*e))),
+        Step::Cell(spot) => put(stack, Arg::At(*spot)),
+        Step::Range(span) => put(stack, Arg::Over(*span)),
         Step::Pre(op) => {
             let v = pop_value(stack, look)?;
-            put(stack, answer(prefixed(*op, &v)))
+            put(stack, Arg::One(answer(prefixed(*op, &v))))
         }
         Step::Bin(op) => {
             let right = pop_value(stack, look)?;
             let left = pop_value(stack, look)?;
             let v = combined(alloc, *op, &left, &right)?;
-            put(stack, v)
+            put(stack, Arg::One(v))
         }
         Step::Call(fun, count) => {
             let count = *count as usize;
             let v = call(alloc, fun, stack.top(count), look)?;
             stack.cut(count);
-            put(stack, v)
+            put(stack, Arg::One(v))
         }
         Step::Test(at_zero, at_error) => test(stack, *at_zero, *at_error, look),
         Step::Skip(count) => {
             let v = pop_value(stack, look)?;
-            put(stack, v)?;
+            put(stack, Arg::One(v))?;
             Ok(*count)
         }
     }
 }
 
-/// Puts a value on top; nothing is passed over.
-fn put(stack: &mut Stack, v: Value) -> Result<u32, Memory>
-    ensures { IfOk result (λ passed. (passed ≡ 0) × (stack.new ≡ arg.One v ∷ stack.old)) }
+/// Puts an argument on top; nothing is passed over.
+fn put(stack: &mut Stack, arg: Arg) -> Result<u32, Memory>
+    ensures { IfOk result (λ passed. (passed ≡ 0) × (stack.new ≡ arg ∷ stack.old)) }
 {
-    stack.push(Arg::One(v))?;
+    stack.push(arg)?;
     Ok(0)
 }
 
@@ -98,7 +91,7 @@ fn test<L: Look>(stack: &mut Stack, at_zero: u32, at_error: u32, look: &L) -> Re
         Ok(0) => Ok(at_zero),
         Ok(_) => Ok(0),
         Err(e) => {
-            put(stack, Value::Err(e))?;
+            put(stack, Arg::One(Value::Err(e)))?;
             Ok(at_error)
         }
     }

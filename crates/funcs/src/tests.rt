@@ -97,13 +97,8 @@ fn lists_of_items(rt: HostRuntime) -> Result<(), Fail> {
     let al = rt.alloc();
     answers(&rt, al, Fun::Counta, &[range(0, 0, 3, 0)], Number(3))?;
     answers(&rt, al, Fun::Count, &[range(0, 0, 2, 0)], Number(1))?;
-    answers(
-        &rt,
-        al,
-        Fun::Min,
-        &[range(0, 0, 1, 0), number(5)],
-        Number(-3),
-    )?;
+    let args = [range(0, 0, 1, 0), number(5)];
+    answers(&rt, al, Fun::Min, &args, Number(-3))?;
     answers(&rt, al, Fun::Min, &[range(1, 1, 4, 1)], Number(1))?;
     answers(&rt, al, Fun::Max, &[range(0, 0, 1, 0)], Number(-3))?;
     answers(&rt, al, Fun::Max, &[cell(3, 0)], Number(0))?;
@@ -111,20 +106,10 @@ fn lists_of_items(rt: HostRuntime) -> Result<(), Fail> {
     answers(&rt, al, Fun::Or, &[cell(1, 0), number(0)], Number(1))?;
     answers(&rt, al, Fun::Or, &[cell(0, 0)], Fault(CalcErr::BadKind))?;
     answers(&rt, al, Fun::Sum, &[range(0, 0, 2, 0)], Fault(CalcErr::Na))?;
-    answers(
-        &rt,
-        al,
-        Fun::Sum,
-        &[cell(4, 0), number(-1), number(1)],
-        Number(i64::MIN),
-    )?;
-    answers(
-        &rt,
-        al,
-        Fun::Sum,
-        &[cell(4, 0), number(-1)],
-        Fault(CalcErr::BadNum),
-    )?;
+    let args = [cell(4, 0), number(-1), number(1)];
+    answers(&rt, al, Fun::Sum, &args, Number(i64::MIN))?;
+    let args = [cell(4, 0), number(-1)];
+    answers(&rt, al, Fun::Sum, &args, Fault(CalcErr::BadNum))?;
     answers(&rt, al, Fun::Sum, &[], Fault(CalcErr::BadKind))?;
     Ok(())
 }
@@ -137,21 +122,11 @@ fn numbers_at_their_edges(rt: HostRuntime) -> Result<(), Fail> {
     answers(&rt, al, Fun::Mod, &[number(-7), number(2)], Number(1))?;
     answers(&rt, al, Fun::Mod, &[number(7), number(-2)], Number(-1))?;
     answers(&rt, al, Fun::Mod, &[cell(4, 0), number(-1)], Number(0))?;
-    answers(
-        &rt,
-        al,
-        Fun::Mod,
-        &[number(1), cell(3, 0)],
-        Fault(CalcErr::Div0),
-    )?;
+    let args = [number(1), cell(3, 0)];
+    answers(&rt, al, Fun::Mod, &args, Fault(CalcErr::Div0))?;
     answers(&rt, al, Fun::Quotient, &[number(-7), number(2)], Number(-3))?;
-    answers(
-        &rt,
-        al,
-        Fun::Quotient,
-        &[cell(4, 0), number(-1)],
-        Fault(CalcErr::BadNum),
-    )?;
+    let args = [cell(4, 0), number(-1)];
+    answers(&rt, al, Fun::Quotient, &args, Fault(CalcErr::BadNum))?;
     answers(&rt, al, Fun::Not, &[cell(3, 0)], Number(1))?;
     answers(&rt, al, Fun::True, &[], Number(1))?;
     answers(&rt, al, Fun::False, &[], Number(0))?;
@@ -164,28 +139,13 @@ fn errors_and_kinds(rt: HostRuntime) -> Result<(), Fail> {
     let bad = fault(CalcErr::BadNum);
     let na = fault(CalcErr::Na);
     answers(&rt, al, Fun::Quotient, &[bad, na], Fault(CalcErr::BadNum))?;
-    answers(
-        &rt,
-        al,
-        Fun::Iferror,
-        &[cell(2, 0), cell(0, 0)],
-        Bytes(b"b"),
-    )?;
-    answers(
-        &rt,
-        al,
-        Fun::If,
-        &[number(1), number(2), cell(2, 0)],
-        Number(2),
-    )?;
+    let args = [cell(2, 0), cell(0, 0)];
+    answers(&rt, al, Fun::Iferror, &args, Bytes(b"b"))?;
+    let args = [number(1), number(2), cell(2, 0)];
+    answers(&rt, al, Fun::If, &args, Number(2))?;
     answers(&rt, al, Fun::If, &[number(0), cell(2, 0)], Number(0))?;
-    answers(
-        &rt,
-        al,
-        Fun::Choose,
-        &[number(2), cell(2, 0), number(7)],
-        Number(7),
-    )?;
+    let args = [number(2), cell(2, 0), number(7)];
+    answers(&rt, al, Fun::Choose, &args, Number(7))?;
     answers(&rt, al, Fun::Iserror, &[range(0, 0, 1, 0)], Number(1))?;
     answers(&rt, al, Fun::Isna, &[cell(2, 0)], Number(1))?;
     answers(&rt, al, Fun::Isblank, &[cell(3, 0)], Number(1))?;
@@ -201,36 +161,16 @@ fn errors_and_kinds(rt: HostRuntime) -> Result<(), Fail> {
 fn lost_references(rt: HostRuntime) -> Result<(), Fail> {
     let al = rt.alloc();
     answers(&rt, al, Fun::Abs, &[cell(5, 0)], Fault(CalcErr::Lost))?;
-    answers(
-        &rt,
-        al,
-        Fun::Len,
-        &[range(0, 2, 1, 2)],
-        Fault(CalcErr::Lost),
-    )?;
-    answers(
-        &rt,
-        al,
-        Fun::Len,
-        &[range(0, 0, 1, 0)],
-        Fault(CalcErr::BadKind),
-    )?;
-    answers(
-        &rt,
-        al,
-        Fun::Sum,
-        &[range(5, 0, 6, 0)],
-        Fault(CalcErr::Lost),
-    )?;
+    let args = [range(0, 2, 1, 2)];
+    answers(&rt, al, Fun::Len, &args, Fault(CalcErr::Lost))?;
+    let args = [range(0, 0, 1, 0)];
+    answers(&rt, al, Fun::Len, &args, Fault(CalcErr::BadKind))?;
+    let args = [range(5, 0, 6, 0)];
+    answers(&rt, al, Fun::Sum, &args, Fault(CalcErr::Lost))?;
     answers(&rt, al, Fun::Counta, &[cell(5, 0)], Number(1))?;
     answers(&rt, al, Fun::Rows, &[cell(5, 0)], Fault(CalcErr::Lost))?;
-    answers(
-        &rt,
-        al,
-        Fun::Rows,
-        &[fault(CalcErr::Lost)],
-        Fault(CalcErr::BadKind),
-    )?;
+    let args = [fault(CalcErr::Lost)];
+    answers(&rt, al, Fun::Rows, &args, Fault(CalcErr::BadKind))?;
     answers(&rt, al, Fun::Rows, &[range(3, 0, 9, 1)], Number(2))?;
     answers(&rt, al, Fun::Columns, &[range(0, 0, 3, 0)], Number(1))?;
     Ok(())
@@ -241,70 +181,25 @@ fn texts_and_their_ends(rt: HostRuntime) -> Result<(), Fail> {
     let al = rt.alloc();
     answers(&rt, al, Fun::Len, &[text(al, b"a\"b")?], Number(3))?;
     answers(&rt, al, Fun::Left, &[text(al, b"xyz")?], Bytes(b"x"))?;
-    answers(
-        &rt,
-        al,
-        Fun::Left,
-        &[text(al, b"xyz")?, number(9)],
-        Bytes(b"xyz"),
-    )?;
-    answers(
-        &rt,
-        al,
-        Fun::Left,
-        &[cell(0, 0), number(-1)],
-        Fault(CalcErr::BadKind),
-    )?;
-    answers(
-        &rt,
-        al,
-        Fun::Right,
-        &[text(al, b"xyz")?, number(2)],
-        Bytes(b"yz"),
-    )?;
-    answers(
-        &rt,
-        al,
-        Fun::Mid,
-        &[text(al, b"xyz")?, number(2), number(9)],
-        Bytes(b"yz"),
-    )?;
-    answers(
-        &rt,
-        al,
-        Fun::Mid,
-        &[text(al, b"xyz")?, number(4), number(1)],
-        Bytes(b""),
-    )?;
-    answers(
-        &rt,
-        al,
-        Fun::Concatenate,
-        &[text(al, b"p")?, number(-1)],
-        Bytes(b"p-1"),
-    )?;
+    let args = [text(al, b"xyz")?, number(9)];
+    answers(&rt, al, Fun::Left, &args, Bytes(b"xyz"))?;
+    let args = [cell(0, 0), number(-1)];
+    answers(&rt, al, Fun::Left, &args, Fault(CalcErr::BadKind))?;
+    let args = [text(al, b"xyz")?, number(2)];
+    answers(&rt, al, Fun::Right, &args, Bytes(b"yz"))?;
+    let args = [text(al, b"xyz")?, number(2), number(9)];
+    answers(&rt, al, Fun::Mid, &args, Bytes(b"yz"))?;
+    let args = [text(al, b"xyz")?, number(4), number(1)];
+    answers(&rt, al, Fun::Mid, &args, Bytes(b""))?;
+    let args = [text(al, b"p")?, number(-1)];
+    answers(&rt, al, Fun::Concatenate, &args, Bytes(b"p-1"))?;
     let longest = text(al, &[b'x'; 127])?;
-    answers(
-        &rt,
-        al,
-        Fun::Concatenate,
-        &[longest, cell(0, 0)],
-        Fault(CalcErr::BadKind),
-    )?;
-    answers(
-        &rt,
-        al,
-        Fun::Exact,
-        &[text(al, b"b")?, cell(0, 0)],
-        Number(1),
-    )?;
-    answers(
-        &rt,
-        al,
-        Fun::Exact,
-        &[text(al, b"B")?, cell(0, 0)],
-        Number(0),
-    )?;
+    let args = [longest, cell(0, 0)];
+    answers(&rt, al, Fun::Concatenate, &args, Fault(CalcErr::BadKind))?;
+    let args = [text(al, b"b")?, cell(0, 0)];
+    answers(&rt, al, Fun::Exact, &args, Number(1))?;
+    let args = [text(al, b"B")?, cell(0, 0)];
+    answers(&rt, al, Fun::Exact, &args, Number(0))?;
     Ok(())
 }
 
@@ -312,82 +207,27 @@ fn texts_and_their_ends(rt: HostRuntime) -> Result<(), Fail> {
 fn items_that_are_the_same(rt: HostRuntime) -> Result<(), Fail> {
     let al = rt.alloc();
     let column = || range(0, 0, 2, 0);
-    answers(
-        &rt,
-        al,
-        Fun::Match,
-        &[number(-3), column(), number(0)],
-        Number(2),
-    )?;
-    answers(
-        &rt,
-        al,
-        Fun::Match,
-        &[text(al, b"1")?, cell(1, 1), number(0)],
-        Fault(CalcErr::Na),
-    )?;
-    answers(
-        &rt,
-        al,
-        Fun::Match,
-        &[number(1), range(0, 0, 1, 1), number(0)],
-        Fault(CalcErr::BadKind),
-    )?;
-    answers(
-        &rt,
-        al,
-        Fun::Index,
-        &[range(0, 0, 3, 0), number(2)],
-        Number(-3),
-    )?;
-    answers(
-        &rt,
-        al,
-        Fun::Index,
-        &[column(), number(1), number(2)],
-        Fault(CalcErr::Lost),
-    )?;
-    answers(
-        &rt,
-        al,
-        Fun::Vlookup,
-        &[number(-3), range(0, 0, 4, 1), number(2), number(0)],
-        Number(1),
-    )?;
-    answers(
-        &rt,
-        al,
-        Fun::Countif,
-        &[range(0, 0, 3, 0), text(al, b"b")?],
-        Number(1),
-    )?;
-    answers(
-        &rt,
-        al,
-        Fun::Sumif,
-        &[range(0, 0, 1, 0), cell(0, 0), range(1, 0, 2, 0)],
-        Number(-3),
-    )?;
-    answers(
-        &rt,
-        al,
-        Fun::Sumif,
-        &[column(), cell(1, 0), cell(0, 0)],
-        Fault(CalcErr::BadKind),
-    )?;
-    answers(
-        &rt,
-        al,
-        Fun::Sumproduct,
-        &[range(0, 0, 1, 0), range(0, 0, 1, 0)],
-        Number(9),
-    )?;
-    answers(
-        &rt,
-        al,
-        Fun::Sumproduct,
-        &[cell(4, 0), cell(1, 0)],
-        Fault(CalcErr::BadNum),
-    )?;
+    let args = [number(-3), column(), number(0)];
+    answers(&rt, al, Fun::Match, &args, Number(2))?;
+    let args = [text(al, b"1")?, cell(1, 1), number(0)];
+    answers(&rt, al, Fun::Match, &args, Fault(CalcErr::Na))?;
+    let args = [number(1), range(0, 0, 1, 1), number(0)];
+    answers(&rt, al, Fun::Match, &args, Fault(CalcErr::BadKind))?;
+    let args = [range(0, 0, 3, 0), number(2)];
+    answers(&rt, al, Fun::Index, &args, Number(-3))?;
+    let args = [column(), number(1), number(2)];
+    answers(&rt, al, Fun::Index, &args, Fault(CalcErr::Lost))?;
+    let args = [number(-3), range(0, 0, 4, 1), number(2), number(0)];
+    answers(&rt, al, Fun::Vlookup, &args, Number(1))?;
+    let args = [range(0, 0, 3, 0), text(al, b"b")?];
+    answers(&rt, al, Fun::Countif, &args, Number(1))?;
+    let args = [range(0, 0, 1, 0), cell(0, 0), range(1, 0, 2, 0)];
+    answers(&rt, al, Fun::Sumif, &args, Number(-3))?;
+    let args = [column(), cell(1, 0), cell(0, 0)];
+    answers(&rt, al, Fun::Sumif, &args, Fault(CalcErr::BadKind))?;
+    let args = [range(0, 0, 1, 0), range(0, 0, 1, 0)];
+    answers(&rt, al, Fun::Sumproduct, &args, Number(9))?;
+    let args = [cell(4, 0), cell(1, 0)];
+    answers(&rt, al, Fun::Sumproduct, &args, Fault(CalcErr::BadNum))?;
     Ok(())
 }

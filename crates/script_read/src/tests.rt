@@ -1,9 +1,9 @@
-use crate::read_command;
+use crate::{LineFault, read_command};
 use std::test::Fail;
 
 #[test]
 fn lines_and_their_commands(rt: HostRuntime) -> Result<(), Fail> {
-    let table: [(&[u8], &str); 29] = [
+    let table: [(&[u8], &str); 16] = [
         (b"", "Ok(Note)"),
         (b"# sheet 1 1", "Ok(Note)"),
         (b"sheet 1000 64", "Ok(Sheet(Size { rows: 1000, cols: 64 }))"),
@@ -35,24 +35,33 @@ fn lines_and_their_commands(rt: HostRuntime) -> Result<(), Fail> {
         (b"pull all", "Ok(PullAll)"),
         (b"show a1", "Ok(Show(Txt { bytes: [97, 49] }))"),
         (b"end", "Ok(End)"),
-        (b" end", "Err(Grammar)"),
-        (b"end ", "Err(Grammar)"),
-        (b"push  all", "Err(Grammar)"),
-        (b"a push 0", "Err(Grammar)"),
-        (b"a push 07", "Err(Grammar)"),
-        (b"site all", "Err(Grammar)"),
-        (b"site A", "Err(Grammar)"),
-        (b"site abcdefghijklmnopq", "Err(Grammar)"),
-        (b"sheet 1001 1", "Err(Grammar)"),
-        (b"sheet 1 65", "Err(Grammar)"),
-        (b"a set A$1 1", "Err(Grammar)"),
-        (b"a set A1 ", "Err(Grammar)"),
-        (b"# a\ttab", "Err(Grammar)"),
     ];
     for (line, answer) in table {
-        let read = read_command(rt.alloc(), line);
-        let told = format!(in rt.alloc(); "{read:?}")?;
+        let told = format!(in rt.alloc(); "{:?}", read_command(rt.alloc(), line))?;
         assert_eq!(rt; told.as_str(), answer);
+    }
+    Ok(())
+}
+
+#[test]
+fn lines_outside_the_grammar(rt: HostRuntime) -> Result<(), Fail> {
+    let lines: [&[u8]; 13] = [
+        b" end",
+        b"end ",
+        b"push  all",
+        b"a push 0",
+        b"a push 07",
+        b"site all",
+        b"site A",
+        b"site abcdefghijklmnopq",
+        b"sheet 1001 1",
+        b"sheet 1 65",
+        b"a set A$1 1",
+        b"a set A1 ",
+        b"# a\ttab",
+    ];
+    for line in lines {
+        assert!(rt; matches!(read_command(rt.alloc(), line), Err(LineFault::Grammar)));
     }
     Ok(())
 }
