@@ -1,5 +1,5 @@
 -- what sources and sinks in memory keep
-use Rattle.std.specs.Prelude.{ℕ, ◌≡◌, ◌+◌, ◌-◌, ◌^◌, ◌<◌, min, List, length, Contains, Result, Ok, Err}
+use Rattle.std.specs.Prelude.{ℕ, ◌≡◌, ◌+◌, ◌-◌, ◌^◌, ◌<◌, min, List, length, Contains, Option, Result, Ok, Err}
 
 -- one more, and at the last number of 64 bits no more
 abbrev pub count_up : ℕ → ℕ
@@ -9,6 +9,11 @@ count_up n = min (n + 1) (2 ^ 64 - 1)
 abbrev pub counted : {T E : Type 0} → ℕ → Result T E → ℕ
 counted n (Ok _) = n
 counted n (Err _) = count_up n
+
+-- What is seen of an end over a reader or a writer.
+pub record EndState : Type 0 where
+  pub known : Option (List ℕ)  -- the bytes that the reader has left, or that the writer holds, where it tells them
+  pub faults : ℕ
 
 -- Which calls are to fail, and how many calls there were and failed.
 pub record PlanState : Type 0 where

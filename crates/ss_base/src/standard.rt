@@ -1,4 +1,5 @@
 ghost use Rattle.std.specs.Prelude.{◌≡◌, ◌<◌, ◌≤◌, length, IfOk, OnErr};
+ghost use Rattle.std.specs.Io.KnownBytes.{ReadConsumes, WriteAppends};
 ghost use Rattle.ss_base.specs.Streams.{Rose};
 ghost use Rattle.ss_base.specs.Ends.{counted};
 
@@ -7,7 +8,8 @@ use crate::types::Failed;
 use std::io::{Read, Write};
 use std::marker::Model;
 
-/// A reader as a source. It tells nothing of the bytes; contracts see the count of its faults.
+/// A reader as a source. As a source it tells nothing of the bytes. Contracts see the count of its
+/// faults, and the bytes of the reader where that tells them.
 #[derive(Debug, Drop)]
 pub struct StdSource<R: Read> {
     inner: R,
@@ -15,17 +17,17 @@ pub struct StdSource<R: Read> {
 }
 
 impl<R: Read> Model for StdSource<R> {
-    ghost use Rattle.std.specs.Prelude.{ℕ};
+    ghost use Rattle.ss_base.specs.Ends.{EndState};
 
-    ghost Value = { ℕ };
+    ghost Value = { EndState };
 
-    ghost view = { λ s. s.faults };
+    ghost view = { λ s. record { known = R.remaining s.inner; faults = s.faults } };
 }
 
 impl<R: Read> StdSource<R> {
     /// A source that reads from `inner`, with no fault counted. It takes no memory.
     pub fn new(inner: R) -> StdSource<R>
-        ensures { result ≡ 0 }
+        ensures { result ≡ record { known = R.remaining inner; faults = 0 } }
     {
         StdSource { inner, faults: 0 }
     }
@@ -36,13 +38,14 @@ impl<R: Read> Source for StdSource<R> {
 
     ghost left = { λ _. None };
 
-    ghost faults = { λ s. s };
+    ghost faults = { λ s. s.faults };
 
     fn read(&mut self, buf: &mut [u8]) -> Result<usize, Failed>
         ensures within { IfOk result (λ n. n ≤ length buf.new) }
-        ensures counted { self.new ≡ counted self.old result }
-        ensures count { self.old ≤ self.new }
-        ensures cause { OnErr result (Rose self.old self.new) }
+        ensures counted { self.new.faults ≡ counted self.old.faults result }
+        ensures passed { ReadConsumes self.old.known self.new.known result buf.new }
+        ensures count { self.old.faults ≤ self.new.faults }
+        ensures cause { OnErr result (Rose self.old.faults self.new.faults) }
     {
         match self.inner.read(buf) {
             Ok(count) => Ok(count),
@@ -54,8 +57,9 @@ impl<R: Read> Source for StdSource<R> {
     }
 }
 
-/// A writer as a sink. It tells nothing of the bytes; contracts see the count of its faults. A writer
-/// that takes no byte of a piece that isn't empty has failed. Nothing is flushed here.
+/// A writer as a sink. As a sink it tells nothing of the bytes. Contracts see the count of its faults,
+/// and the bytes of the writer where that tells them. A writer that takes no byte of a piece that isn't
+/// empty has failed. Nothing is flushed here.
 #[derive(Debug, Drop)]
 pub struct StdSink<W: Write> {
     inner: W,
@@ -63,17 +67,17 @@ pub struct StdSink<W: Write> {
 }
 
 impl<W: Write> Model for StdSink<W> {
-    ghost use Rattle.std.specs.Prelude.{ℕ};
+    ghost use Rattle.ss_base.specs.Ends.{EndState};
 
-    ghost Value = { ℕ };
+    ghost Value = { EndState };
 
-    ghost view = { λ s. s.faults };
+    ghost view = { λ s. record { known = W.contents s.inner; faults = s.faults } };
 }
 
 impl<W: Write> StdSink<W> {
     /// A sink that writes to `inner`, with no fault counted. It takes no memory.
     pub fn new(inner: W) -> StdSink<W>
-        ensures { result ≡ 0 }
+        ensures { result ≡ record { known = W.contents inner; faults = 0 } }
     {
         StdSink { inner, faults: 0 }
     }
@@ -84,14 +88,15 @@ impl<W: Write> Sink for StdSink<W> {
 
     ghost taken = { λ _. None };
 
-    ghost faults = { λ s. s };
+    ghost faults = { λ s. s.faults };
 
     fn write(&mut self, piece: &[u8]) -> Result<usize, Failed>
         ensures within { IfOk result (λ n. n ≤ length piece.now) }
         ensures some { 0 < length piece.now → IfOk result (λ n. 0 < n) }
-        ensures counted { self.new ≡ counted self.old result }
-        ensures count { self.old ≤ self.new }
-        ensures cause { OnErr result (Rose self.old self.new) }
+        ensures counted { self.new.faults ≡ counted self.old.faults result }
+        ensures passed { WriteAppends self.old.known self.new.known result piece.now }
+        ensures count { self.old.faults ≤ self.new.faults }
+        ensures cause { OnErr result (Rose self.old.faults self.new.faults) }
     {
         match self.inner.write(piece) {
             Ok(count) if count > 0 || piece.is_empty() => Ok(count),
