@@ -1,5 +1,7 @@
--- The number that the program ends with.
-use Rattle.std.specs.Prelude.{ℕ}
+-- The number that the program ends with, and what it says of a status on standard error.
+use Rattle.std.specs.Prelude.{ℕ, List, ◌++◌, codes, decimal}
+use Rattle.script_read.specs.declared.script.ScriptKind.{ScriptKind}
+use Rattle.script_read.specs.declared.script.ScriptKind.TheVariants as kind
 use Rattle.sheetshare.specs.declared.play.Status.{Status}
 use Rattle.sheetshare.specs.declared.play.Status.TheVariants as status
 
@@ -11,3 +13,25 @@ exit_code status.WriteFault = 3
 exit_code status.Memory = 4
 exit_code status.Usage = 5
 exit_code (status.TooLong line) = 6
+
+-- why a script stopped
+abbrev pub cause_text : ScriptKind → List ℕ
+cause_text kind.Grammar = codes "grammar"
+cause_text kind.Sheet = codes "sheet"
+cause_text kind.Site = codes "site"
+cause_text kind.NotLive = codes "not live"
+cause_text kind.Unended = codes "unended"
+
+-- what is said of the line with a number
+abbrev pub line_text : ℕ → List ℕ → List ℕ
+line_text line said = codes "line " ++ decimal line ++ codes ": " ++ said
+
+-- what is said of a status, behind the program's name
+abbrev pub status_text : Status → List ℕ
+status_text status.Done = codes "done"
+status_text (status.Script err) = line_text err.line (cause_text err.kind)
+status_text status.ReadFault = codes "read fault"
+status_text status.WriteFault = codes "write fault"
+status_text status.Memory = codes "no memory"
+status_text status.Usage = codes "usage"
+status_text (status.TooLong line) = line_text line (codes "too long")

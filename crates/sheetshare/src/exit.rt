@@ -1,5 +1,5 @@
-ghost use Rattle.std.specs.Prelude.{◌≡◌};
-ghost use Rattle.sheetshare.specs.Exits.{exit_code};
+ghost use Rattle.std.specs.Prelude.{◌≡◌, Some};
+ghost use Rattle.sheetshare.specs.Exits.{exit_code, cause_text, status_text};
 
 use crate::play::Status;
 use script_read::ScriptKind;
@@ -22,7 +22,9 @@ pub fn code(status: Status) -> u8
 }
 
 /// Why a script stopped, in one word or two.
-fn cause(kind: ScriptKind) -> &'static str {
+fn cause(kind: ScriptKind) -> &'static str
+    ensures { result.now ≡ cause_text kind }
+{
     match kind {
         ScriptKind::Grammar => "grammar",
         ScriptKind::Sheet => "sheet",
@@ -34,6 +36,8 @@ fn cause(kind: ScriptKind) -> &'static str {
 
 /// What the program says of a status on standard error, behind its name. Lines count from 1.
 impl Display for Status {
+    ghost output = { λ s. Some (status_text s) };
+
     fn fmt<W: fmt::Write>(&self, f: &mut Formatter<W>) -> fmt::Result {
         match *self {
             Status::Done => f.write_str("done"),
