@@ -19,7 +19,7 @@ use Rattle.formula_tree.specs.Measures.{node_count, node_counts}
 use Rattle.formula_code.specs.declared.step.Step.{Step}
 use Rattle.formula_code.specs.declared.step.Step.TheVariants as step
 use Rattle.formula_code.specs.Code.{code_of, codes_of, call_code, if_code, plain_call, choice_code, is_if, is_choice}
-use Rattle.formula_code.proofs.Calls.{choice_counts, choice_is_if}
+use Rattle.formula_code.proofs.Calls.{as_many_nodes, choice_counts, choice_is_if}
 use Rattle.funcs.specs.declared.arg.Arg.{Arg}
 use Rattle.funcs.specs.declared.arg.Arg.TheVariants as arg
 use Rattle.funcs.specs.Args.{value_of, number}
@@ -51,20 +51,6 @@ module _ (E : Environment) where
   argument_value (pre op t) = refl
   argument_value (bin op s t) = refl
   argument_value (call f ts) = refl
-
-  some_node : (t : Tree Spot Span) → 1 ≤ node_count t
-  some_node (num n) = omega arith
-  some_node (text t) = omega arith
-  some_node (fault e) = omega arith
-  some_node (cell c) = omega arith
-  some_node (range r) = omega arith
-  some_node (pre op t) = omega arith
-  some_node (bin op s t) = omega arith
-  some_node (call f ts) = omega arith
-
-  as_many_nodes : (ts : Trees Spot Span) → length (codes_of ts) ≤ node_counts ts
-  as_many_nodes none = omega arith
-  as_many_nodes (more t ts) = let h = some_node t in let rest = as_many_nodes ts in omega arith
 
   argument_count : (ts : Trees Spot Span) → length (arguments E ts) ≡ length (codes_of ts)
   argument_count none = refl

@@ -20,7 +20,8 @@ abbrev pub tested : ℕ → ℕ → Result ℤ CalcErr → List Arg → ℕ × L
 tested n m (Err e) stack = (m, arg.One (value.Err e) ∷ stack)
 tested n m (Ok k) stack = (if is_zero k then n else 0, stack)
 
--- how many steps are passed over after one step, and the stack; none where it lacks an argument
+-- How many steps are passed over after one step, and the stack. There is none where the stack lacks an argument, and for
+-- a call of more arguments than any formula has.
 abbrev pub moved : Environment → Step → List Arg → Option (ℕ × List Arg)
 moved E (step.Num n) stack = Some (0, arg.One (value.Num n) ∷ stack)
 moved E (step.Text t) stack = Some (0, arg.One (text_value t) ∷ stack)

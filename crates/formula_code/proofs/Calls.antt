@@ -40,15 +40,19 @@ some_node (pre op t) = omega arith
 some_node (bin op s t) = omega arith
 some_node (call f ts) = omega arith
 
-as_many_nodes : (es : List Expr) → length es ≤ node_counts (trees_from (map tree_of es))
-as_many_nodes [] = omega arith
-as_many_nodes (e ∷ es) = let h = some_node (tree_of e) in let rest = as_many_nodes es in omega arith
+pub as_many_nodes : (ts : Trees Spot Span) → length (codes_of ts) ≤ node_counts ts
+as_many_nodes none = omega arith
+as_many_nodes (more t ts) = let h = some_node t in let rest = as_many_nodes ts in omega arith
 
 nodes_of_call : (f : Fun) (es : List Expr) → node_count (tree_of (Call f es)) ≡ suc (node_counts (trees_from (map tree_of es)))
 nodes_of_call f es = ap (λ (t : Tree Spot Span). node_count t) (tree_of-call f es)
 
 pub few_arguments : (f : Fun) (es : List Expr) (n : ℕ) → node_count (tree_of (Call f es)) < n → length es < n
-few_arguments f es n h = let c = nodes_of_call f es in let l = as_many_nodes es in omega arith
+few_arguments f es n h =
+    let c = nodes_of_call f es in
+    let many = as_many_nodes (trees_from (map tree_of es)) in
+    let each = ap (λ (cs : List (List Step)). length cs) (codes_listed es) ∙ length-map es expr_code in
+    omega arith
 
 pub small_arguments : (f : Fun) (es : List Expr) (n : ℕ) → node_count (tree_of (Call f es)) < n → All (λ (e : Expr). node_count (tree_of e) < n) es
 small_arguments f es n h =

@@ -15,12 +15,12 @@ exit_code status.Usage = 5
 exit_code (status.TooLong line) = 6
 
 -- why a script stopped
-abbrev pub cause_text : ScriptKind → List ℕ
-cause_text kind.Grammar = codes "grammar"
-cause_text kind.Sheet = codes "sheet"
-cause_text kind.Site = codes "site"
-cause_text kind.NotLive = codes "not live"
-cause_text kind.Unended = codes "unended"
+abbrev pub stop_text : ScriptKind → List ℕ
+stop_text kind.Grammar = codes "grammar"
+stop_text kind.Sheet = codes "sheet"
+stop_text kind.Site = codes "site"
+stop_text kind.NotLive = codes "not live"
+stop_text kind.Unended = codes "unended"
 
 -- what is said of the line with a number
 abbrev pub line_text : ℕ → List ℕ → List ℕ
@@ -29,7 +29,7 @@ line_text line said = codes "line " ++ decimal line ++ codes ": " ++ said
 -- what is said of a status, behind the program's name
 abbrev pub status_text : Status → List ℕ
 status_text status.Done = codes "done"
-status_text (status.Script err) = line_text err.line (cause_text err.kind)
+status_text (status.Script err) = line_text err.line (stop_text err.kind)
 status_text status.ReadFault = codes "read fault"
 status_text status.WriteFault = codes "write fault"
 status_text status.Memory = codes "no memory"

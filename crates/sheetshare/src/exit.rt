@@ -1,5 +1,5 @@
 ghost use Rattle.std.specs.Prelude.{◌≡◌, Some};
-ghost use Rattle.sheetshare.specs.Exits.{exit_code, cause_text, status_text};
+ghost use Rattle.sheetshare.specs.Exits.{exit_code, stop_text, status_text};
 
 use crate::play::Status;
 use script_read::ScriptKind;
@@ -23,7 +23,7 @@ pub fn code(status: Status) -> u8
 
 /// Why a script stopped, in one word or two.
 fn cause(kind: ScriptKind) -> &'static str
-    ensures { result.now ≡ cause_text kind }
+    ensures { result.now ≡ stop_text kind }
 {
     match kind {
         ScriptKind::Grammar => "grammar",
