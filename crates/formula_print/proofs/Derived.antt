@@ -6,7 +6,7 @@ use Rattle.ss_base.specs.declared.types.Span.{Span}
 use Rattle.formula_tree.specs.Tree.{Tree, Trees, num, text, fault, cell, range, pre, bin, call, none, more}
 use Rattle.formula_tree.specs.Precedence.{precedence_of, precedence_of_operator}
 use Rattle.formula_tree.specs.Measures.{print_nesting, placed_nesting, greatest_nesting}
-use Rattle.formula_tree.specs.Tokens.{Token}
+use Rattle.formula_tree.specs.Tokens.{TokenValue}
 use Rattle.formula_tree.specs.Tokens as token
 use Rattle.formula_tree.specs.Grammar.{Derives, Arguments, Listed}
 use Rattle.formula_tree.specs.Grammar as grammar
@@ -24,7 +24,7 @@ precedence_some (pre op t) = omega arith
 precedence_some (bin op s t) = least_precedence op
 precedence_some (call f ts) = omega arith
 
-placed : {ts : List Token} {t : Tree Spot Span} {n : ℕ} (wanted precedence : ℕ) → wanted ≤ 7 → 1 ≤ precedence → Derives precedence ts t n →
+placed : {ts : List TokenValue} {t : Tree Spot Span} {n : ℕ} (wanted precedence : ℕ) → wanted ≤ 7 → 1 ≤ precedence → Derives precedence ts t n →
     Derives wanted (placed_tokens wanted precedence ts) t (placed_nesting wanted precedence n)
 placed {ts} {t} {n} wanted precedence most some d = by_test (nat_lt precedence wanted) refl
   where

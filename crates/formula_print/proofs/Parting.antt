@@ -2,12 +2,12 @@
 use Rattle.std.proofs.Common.{◌≡◌, ℕ, Bool, true, false, ◌||◌, nat_eq, List, [], ◌∷◌, ◌++◌, refl, arith}
 use Rattle.std.specs.Char.{is_ascii_digit}
 use Rattle.std.proofs.lemmas.Bool.Decides.{nat_tests}
-use Rattle.formula_tree.specs.Tokens.{Token, Follows, is_name_byte}
+use Rattle.formula_tree.specs.Tokens.{TokenValue, Follows, is_name_byte}
 use Rattle.formula_tree.specs.Tokens as token
 use Rattle.formula_tree.specs.declared.operators.BinOp.{BinOp}
 use Rattle.formula_tree.specs.Lexing.{space_count, past_spaces}
 use Rattle.formula_read.specs.declared.kinds.TokenKind.TheVariants as kind
-use Rattle.formula_read.specs.Read.{kind_of}
+use Rattle.formula_read.specs.Read.{token_kind}
 use Rattle.formula_read.specs.Behind.{goes_on}
 use Rattle.formula_read.specs.Reading.{begins_operand, begins_sign}
 
@@ -26,8 +26,8 @@ is_operand [] = false
 is_operand (b ∷ bs) = begins_operand b
 
 -- the token ends before these bytes, and there is no space
-pub record IsParted (t : Token) (rest : List ℕ) : Type 0 where
-  pub ends : goes_on (kind_of t) rest ≡ false
+pub record IsParted (t : TokenValue) (rest : List ℕ) : Type 0 where
+  pub ends : goes_on (token_kind t) rest ≡ false
   pub follows : Follows t rest
   pub spaces : space_count rest ≡ 0
   pub past : past_spaces rest ≡ rest
@@ -67,14 +67,14 @@ no_sign : (b : ℕ) → begins_operand b ≡ true → (nat_eq b 61 || nat_eq b 6
 no_sign b h = grind (arith, nat_tests)
 
 -- operands' last tokens
-abbrev pub ends_tree : Token → Bool
+abbrev pub ends_tree : TokenValue → Bool
 ends_tree (token.name n) = false
 ends_tree (token.sign op) = false
 ends_tree token.opening = false
 ends_tree token.semicolon = false
 ends_tree t = true
 
-ends_behind : (t : Token) (r : List ℕ) → ends_tree t ≡ true → is_behind r ≡ true → goes_on (kind_of t) r ≡ false
+ends_behind : (t : TokenValue) (r : List ℕ) → ends_tree t ≡ true → is_behind r ≡ true → goes_on (token_kind t) r ≡ false
 ends_behind t [] e h = refl
 ends_behind (token.numeral n) (b ∷ bs) e h = no_digit b h
 ends_behind (token.text t) (b ∷ bs) e h = no_quote b h
@@ -87,7 +87,7 @@ ends_behind (token.sign op) (b ∷ bs) e h = absurd (cc)
 ends_behind token.opening (b ∷ bs) e h = absurd (cc)
 ends_behind token.semicolon (b ∷ bs) e h = absurd (cc)
 
-follows_any : (t : Token) (r : List ℕ) → ends_tree t ≡ true → Follows t r
+follows_any : (t : TokenValue) (r : List ℕ) → ends_tree t ≡ true → Follows t r
 follows_any (token.numeral n) r e = tt
 follows_any (token.text t) r e = tt
 follows_any (token.fault f) r e = tt
@@ -99,7 +99,7 @@ follows_any (token.sign op) r e = tt
 follows_any token.opening r e = tt
 follows_any token.semicolon r e = tt
 
-pub parted_behind : (t : Token) (r : List ℕ) → ends_tree t ≡ true → is_behind r ≡ true → IsParted t r
+pub parted_behind : (t : TokenValue) (r : List ℕ) → ends_tree t ≡ true → is_behind r ≡ true → IsParted t r
 parted_behind t r e h =
     let none = behind_unspaced r h in
     record { ends = ends_behind t r e h; follows = follows_any t r e; spaces = none.spaces; past = none.past }

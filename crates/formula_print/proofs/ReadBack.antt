@@ -10,7 +10,7 @@ use Rattle.formula_tree.specs.Printed.{formula_text}
 use Rattle.formula_tree.specs.WellFormed.{IsFormula}
 use Rattle.formula_read.specs.declared.kinds.ParseErr.{ParseErr}
 use Rattle.formula_read.specs.declared.kinds.ParseErr.TheVariants.{At, Deep, Memory}
-use Rattle.formula_read.specs.Nested.{ReadAs}
+use Rattle.formula_read.specs.Readings.{ReadAs}
 use Rattle.formula_print.proofs.Cut.{FindsNext, text_stands}
 use Rattle.formula_print.proofs.Spelled.{ReadsCells}
 

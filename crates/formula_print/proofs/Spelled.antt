@@ -18,7 +18,7 @@ use Rattle.formula_tree.specs.declared.operators.PreOp.TheVariants.{Plus, Minus}
 use Rattle.formula_tree.specs.declared.functions.Fun.{Fun}
 use Rattle.formula_tree.specs.declared.functions.Fun.TheVariants.{Unknown}
 use Rattle.formula_tree.specs.Names.{name_of}
-use Rattle.formula_tree.specs.Tokens.{Token, Spells, SpellsRange, is_name, is_name_byte, upper_case, error_name, sign_text}
+use Rattle.formula_tree.specs.Tokens.{TokenValue, Spells, SpellsRange, is_name, is_name_byte, upper_case, error_name, sign_text}
 use Rattle.formula_tree.specs.Tokens as token
 use Rattle.formula_tree.specs.Grammar.{operator_of_sign}
 use Rattle.formula_tree.specs.WellFormed.{IsFun, IsRange}

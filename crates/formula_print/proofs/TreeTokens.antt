@@ -7,14 +7,14 @@ use Rattle.cell_addr.specs.Cells.{spot_text, span_text}
 use Rattle.formula_tree.specs.Names.{name_of}
 use Rattle.formula_tree.specs.Tree.{Tree, Trees, num, text, fault, cell, range, pre, bin, call, none, more}
 use Rattle.formula_tree.specs.Precedence.{precedence_of, precedence_of_operator}
-use Rattle.formula_tree.specs.Tokens.{Token, error_name, sign_text}
+use Rattle.formula_tree.specs.Tokens.{TokenValue, error_name, sign_text}
 use Rattle.formula_tree.specs.Tokens as token
 use Rattle.formula_tree.specs.Grammar.{operator_of_sign}
 use Rattle.formula_tree.specs.WellFormed.{IsWellFormed, AreWellFormed}
 use Rattle.formula_tree.specs.Printed.{placed_text, quoted, tree_text, argument_texts}
 
 -- what a token is printed as
-abbrev pub token_text : Token → List ℕ
+abbrev pub token_text : TokenValue → List ℕ
 token_text (token.numeral n) = decimal n
 token_text (token.text t) = quoted t
 token_text (token.fault e) = error_name e
@@ -26,16 +26,16 @@ token_text token.opening = 40 ∷ []
 token_text token.closing = 41 ∷ []
 token_text token.semicolon = 59 ∷ []
 
-abbrev pub token_texts : List Token → List ℕ
+abbrev pub token_texts : List TokenValue → List ℕ
 token_texts [] = []
 token_texts (t ∷ ts) = token_text t ++ token_texts ts
 
 -- an operand's tokens, in brackets where it binds more loosely than its place wants
-abbrev pub placed_tokens : ℕ → ℕ → List Token → List Token
+abbrev pub placed_tokens : ℕ → ℕ → List TokenValue → List TokenValue
 placed_tokens wanted precedence ts = cond (nat_lt precedence wanted) (token.opening ∷ ts ++ token.closing ∷ []) ts
 
 -- those of several arguments, with a semicolon between each two
-abbrev pub parted_tokens : List (List Token) → List Token
+abbrev pub parted_tokens : List (List TokenValue) → List TokenValue
 parted_tokens [] = []
 parted_tokens (ts ∷ []) = ts
 parted_tokens (ts ∷ us ∷ rest) = ts ++ token.semicolon ∷ parted_tokens (us ∷ rest)
@@ -46,7 +46,7 @@ numeral_of (pos n) = n
 numeral_of (negsuc n) = 0
 
 abbrev mutual
-  pub tree_tokens : Tree Spot Span → List Token
+  pub tree_tokens : Tree Spot Span → List TokenValue
   tree_tokens (num z) = token.numeral (numeral_of z) ∷ []
   tree_tokens (text t) = token.text t ∷ []
   tree_tokens (fault e) = token.fault e ∷ []
@@ -58,19 +58,19 @@ abbrev mutual
       ++ token.sign op ∷ placed_tokens (suc (precedence_of_operator op)) (precedence_of t) (tree_tokens t)
   tree_tokens (call f ts) = token.name (name_of f) ∷ token.opening ∷ parted_tokens (argument_tokens ts) ++ token.closing ∷ []
 
-  pub argument_tokens : Trees Spot Span → List (List Token)
+  pub argument_tokens : Trees Spot Span → List (List TokenValue)
   argument_tokens none = []
   argument_tokens (more t ts) = tree_tokens t ∷ argument_tokens ts
 
 -- texts of tokens
-pub token_texts-append : (ss ts : List Token) → token_texts (ss ++ ts) ≡ token_texts ss ++ token_texts ts
+pub token_texts-append : (ss ts : List TokenValue) → token_texts (ss ++ ts) ≡ token_texts ss ++ token_texts ts
 token_texts-append [] ts = refl
 token_texts-append (s ∷ ss) ts = ap (λ (l : List ℕ). token_text s ++ l) (token_texts-append ss ts) ∙ sym (append_assoc (token_text s) (token_texts ss) (token_texts ts))
 
-token_texts-one : (t : Token) → token_texts (t ∷ []) ≡ token_text t
+token_texts-one : (t : TokenValue) → token_texts (t ∷ []) ≡ token_text t
 token_texts-one t = append-nil (token_text t)
 
-token_texts-placed : (wanted precedence : ℕ) (ts : List Token) (operand : List ℕ) → operand ≡ token_texts ts →
+token_texts-placed : (wanted precedence : ℕ) (ts : List TokenValue) (operand : List ℕ) → operand ≡ token_texts ts →
     placed_text wanted precedence operand ≡ token_texts (placed_tokens wanted precedence ts)
 token_texts-placed wanted precedence ts operand e = by_test (nat_lt precedence wanted)
   where
@@ -78,7 +78,7 @@ token_texts-placed wanted precedence ts operand e = by_test (nat_lt precedence w
     by_test true = ap (λ (l : List ℕ). 40 ∷ l ++ 41 ∷ []) e ∙ ap (λ (l : List ℕ). 40 ∷ l) (sym (token_texts-append ts (token.closing ∷ [])))
     by_test false = e
 
-token_texts-parted : (tss : List (List Token)) → join_with_byte 59 (map token_texts tss) ≡ token_texts (parted_tokens tss)
+token_texts-parted : (tss : List (List TokenValue)) → join_with_byte 59 (map token_texts tss) ≡ token_texts (parted_tokens tss)
 token_texts-parted [] = refl
 token_texts-parted (ts ∷ []) = refl
 token_texts-parted (ts ∷ us ∷ rest) =

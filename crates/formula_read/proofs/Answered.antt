@@ -5,19 +5,20 @@ use Rattle.ss_base.specs.declared.types.Spot.{Spot}
 use Rattle.ss_base.specs.declared.types.Span.{Span}
 use Rattle.formula_tree.specs.Tree.{Tree}
 use Rattle.formula_tree.specs.WellFormed.{IsFormula}
-use Rattle.formula_tree.specs.Tokens.{Token}
+use Rattle.formula_tree.specs.Tokens.{TokenValue}
 use Rattle.formula_tree.specs.Lexing.{Lexeme, Lexes}
-use Rattle.formula_tree.specs.Grammar.{Stands}
+use Rattle.formula_tree.specs.Grammar.{Stands, IsFormulaText}
 use Rattle.formula_read.specs.declared.kinds.ParseErr.{ParseErr}
 use Rattle.formula_read.specs.declared.kinds.ParseErr.TheVariants.{At}
-use Rattle.formula_read.specs.declared.stop.Stop.{Stop}
-use Rattle.formula_read.specs.declared.stop.Stop.TheVariants as stop
+use Rattle.formula_read.specs.declared.tree_err.TreeErr.{TreeErr}
+use Rattle.formula_read.specs.declared.tree_err.TreeErr.TheVariants as tree_err
 use Rattle.formula_read.specs.declared.stack.Frame.{Frame}
 use Rattle.formula_read.specs.declared.stack.Side.{Side}
-use Rattle.formula_read.specs.Nested.{Nested, ReadAs}
-use Rattle.formula_read.specs.Places.{tokens_of, IsFormulaText}
+use Rattle.formula_read.specs.Nested.{Nested}
+use Rattle.formula_read.specs.Readings.{ReadAs}
+use Rattle.formula_read.specs.Places.{tokens_of}
 use Rattle.formula_read.specs.Stack.{State, start, stepped, walked, finished_at}
-use Rattle.formula_read.specs.Steps.{Gives, Answers}
+use Rattle.formula_read.specs.Steps.{StepsTo, Answers}
 use Rattle.formula_read.proofs.Choices.{nothing}
 use Rattle.formula_read.proofs.Derived.{expression_walked}
 use Rattle.formula_read.proofs.Spellings.{one_cut}
@@ -25,21 +26,21 @@ use Rattle.formula_read.proofs.Formed.{formula_formed}
 use Rattle.formula_read.proofs.Nestings.{refused_step}
 
 -- where a step leads
-given_some : (p : Side) (fs : List Frame) (o : Option State) → Gives (Ok p) fs o → o ≡ Some (record { side = p; frames = reverse fs })
+given_some : (p : Side) (fs : List Frame) (o : Option State) → StepsTo (Ok p) fs o → o ≡ Some (record { side = p; frames = reverse fs })
 given_some p fs None h = absurd h
 given_some p fs (Some s) h = ap Some h
 
 -- One more token of a walk.
-module _ (ts : List Token) (i : ℕ) (t : Token) (side : Side) (frames : List Frame) (rest : drop i ts ≡ t ∷ drop (i + 1) ts)
+module _ (ts : List TokenValue) (i : ℕ) (t : TokenValue) (side : Side) (frames : List Frame) (rest : drop i ts ≡ t ∷ drop (i + 1) ts)
     (so_far : finished_at (walked (Some start) ts) ≡ finished_at (walked (Some (record { side = side; frames = reverse frames })) (drop i ts))) where
   one_more : finished_at (walked (Some start) ts) ≡ finished_at (walked (stepped side (reverse frames) t) (drop (i + 1) ts))
-  one_more = so_far ∙ ap (λ (us : List Token). finished_at (walked (Some (record { side = side; frames = reverse frames })) us)) rest
+  one_more = so_far ∙ ap (λ (us : List TokenValue). finished_at (walked (Some (record { side = side; frames = reverse frames })) us)) rest
 
-  pub walk_goes : (p : Side) (fs : List Frame) → Gives (Ok p) fs (stepped side (reverse frames) t) →
+  pub walk_goes : (p : Side) (fs : List Frame) → StepsTo (Ok p) fs (stepped side (reverse frames) t) →
       finished_at (walked (Some start) ts) ≡ finished_at (walked (Some (record { side = p; frames = reverse fs })) (drop (i + 1) ts))
   walk_goes p fs h = one_more ∙ ap (λ (o : Option State). finished_at (walked o (drop (i + 1) ts))) (given_some p fs (stepped side (reverse frames) t) h)
 
-  pub walk_refused : (e : Stop) (fs : List Frame) → Gives (Err e) fs (stepped side (reverse frames) t) → Answers (Err e) (finished_at (walked (Some start) ts))
+  pub walk_refused : (e : TreeErr) (fs : List Frame) → StepsTo (Err e) fs (stepped side (reverse frames) t) → Answers (Err e) (finished_at (walked (Some start) ts))
   walk_refused e fs h = subst (λ (o : Option Nested). Answers (Err e) o) (sym one_more) (refused_step e fs (stepped side (reverse frames) t) (drop (i + 1) ts) h)
 
 -- The tokens of a formula's text lead to its tree and nesting.
@@ -52,10 +53,10 @@ module _ (text : List ℕ) (ls : List Lexeme) (l : Lexes 0 text ls) where
   abbrev answer : Option Nested
   answer = finished_at (walked (Some start) (tokens_of ls))
 
-  pub answer_deep : Answers (Err stop.Deep) answer → (t : Tree Spot Span) (n : ℕ) → Stands text t n → 64 < n
-  answer_deep h t n stands = subst (λ (o : Option Nested). Answers (Err stop.Deep) o) (text_walked text ls t n l stands) h
+  pub answer_deep : Answers (Err tree_err.Deep) answer → (t : Tree Spot Span) (n : ℕ) → Stands text t n → 64 < n
+  answer_deep h t n stands = subst (λ (o : Option Nested). Answers (Err tree_err.Deep) o) (text_walked text ls t n l stands) h
 
-  pub answer_outside : Answers (Err stop.Outside) answer → IsFormulaText text → ⊥
+  pub answer_outside : Answers (Err tree_err.Outside) answer → IsFormulaText text → ⊥
   answer_outside h (t, n, stands) = nothing (sym h ∙ text_walked text ls t n l stands)
 
   answer_is : (x : Nested) → Answers (Ok x) answer → (t : Tree Spot Span) (n : ℕ) → Stands text t n → x ≡ record { tree = t; nesting = n }

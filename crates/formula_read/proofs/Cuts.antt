@@ -3,7 +3,7 @@ use Rattle.std.proofs.Common.{◌≡◌, ◌≢◌, ℕ, suc, ◌+◌, ◌-◌, 
 use Rattle.std.specs.Prelude.{◌⊎◌}
 use Rattle.std.proofs.lemmas.Bool.{cases_lt}
 use Rattle.std.proofs.lemmas.List.{append-nil, take-append-drop, length-take, length-append}
-use Rattle.formula_tree.specs.Tokens.{Token, Spells, Follows, Fits, IsNext, upper_case}
+use Rattle.formula_tree.specs.Tokens.{TokenValue, Spells, Follows, Fits, IsNext, upper_case}
 use Rattle.formula_tree.specs.Tokens as token
 use Rattle.formula_tree.specs.Lexing.{Lexeme, Lexes, space_count, past_spaces}
 use Rattle.formula_tree.specs.Lexing as cut
@@ -12,8 +12,8 @@ use Rattle.formula_read.specs.declared.partial.Partial.TheVariants.{Fresh, Word}
 use Rattle.formula_read.specs.declared.partial.Address.{Address}
 use Rattle.formula_read.specs.declared.partial.Address.TheVariants.{Neither, Cell, Range}
 use Rattle.formula_read.specs.declared.partial.Corner.TheVariants.{Start, Dollar, Letters, Fixed, Digits}
-use Rattle.formula_read.specs.Partial.{begun, word, name_step, address_step}
-use Rattle.formula_read.specs.Longest.{run, longest, fronts}
+use Rattle.formula_read.specs.Partial.{fresh_step, word, name_step, address_step}
+use Rattle.formula_read.specs.Longest.{partial_after, longest, fronts}
 use Rattle.formula_read.proofs.Choices.{same_number}
 use Rattle.formula_read.proofs.Forms.{run-append, fresh_holds, completes}
 use Rattle.formula_read.proofs.Words.{run_name}
@@ -27,25 +27,25 @@ front_length bs = fronts (Some Fresh) bs - 1
 -- a text that can't be cut into tokens, and how far it goes
 pub data Fails : List ℕ → ℕ → Type 0 where
   stuck : {bs : List ℕ} → longest (Some Fresh) bs ≡ None → bs ≢ [] → Fails bs (front_length bs)
-  later : {piece behind : List ℕ} {t : Token} {f : ℕ} → IsNext piece t behind → Fails (past_spaces behind) f →
+  later : {piece behind : List ℕ} {t : TokenValue} {f : ℕ} → IsNext piece t behind → Fails (past_spaces behind) f →
       Fails (piece ++ behind) (max (front_length (piece ++ behind)) (length piece + (space_count behind + f)))
 
 -- a cut, taken apart
 abbrev IsCut : ℕ → List ℕ → List Lexeme → Type 0
-IsCut at bs ls = (piece : List ℕ) × (behind : List ℕ) × (t : Token) × (more : List Lexeme) × (bs ≡ piece ++ behind) × IsNext piece t behind
+IsCut at bs ls = (piece : List ℕ) × (behind : List ℕ) × (t : TokenValue) × (more : List Lexeme) × (bs ≡ piece ++ behind) × IsNext piece t behind
     × Lexes (at + length piece + space_count behind) (past_spaces behind) more
 
 apart : {at : ℕ} {bs : List ℕ} {ls : List Lexeme} → Lexes at bs ls → (bs ≡ []) ⊎ IsCut at bs ls
 apart cut.end = inl refl
 apart (cut.next {piece = piece} {behind = behind} {t = t} {ls = ls} n more) = inr (piece, behind, t, ls, refl, n, more)
 
-pub one_next : (p : List ℕ) (t : Token) (r q : List ℕ) (u : Token) (s : List ℕ) → IsNext p t r → IsNext q u s → p ++ r ≡ q ++ s → (p ≡ q) × (r ≡ s)
+pub one_next : (p : List ℕ) (t : TokenValue) (r q : List ℕ) (u : TokenValue) (s : List ℕ) → IsNext p t r → IsNext q u s → p ++ r ≡ q ++ s → (p ≡ q) × (r ≡ s)
 one_next p t r q u s n m e =
     let longer = n.longest q u s (sym e) m.fits in
     let shorter = m.longest p t r e n.fits in
     same_front p r q s e (omega arith)
 
-piece_is_some : (p : List ℕ) (t : Token) (r : List ℕ) → Fits p t r → 0 < length p
+piece_is_some : (p : List ℕ) (t : TokenValue) (r : List ℕ) → Fits p t r → 0 < length p
 piece_is_some [] t r h = absurd (no_empty_token t r h)
 piece_is_some (b ∷ bs) t r h = omega arith
 
@@ -69,17 +69,17 @@ pub fails_beyond : {bs : List ℕ} {f : ℕ} → Fails bs f → front_length bs 
 fails_beyond (stuck none some) = omega arith
 fails_beyond (later n fails) = omega arith
 
-reached : (x u p z : List ℕ) (t : Token) (r : List ℕ) → Fits p t r → p ≡ x ++ z → length x ≤ front_length (x ++ u)
-reached x u p z t r h e = by_run (run (Some Fresh) x) refl
+reached : (x u p z : List ℕ) (t : TokenValue) (r : List ℕ) → Fits p t r → p ≡ x ++ z → length x ≤ front_length (x ++ u)
+reached x u p z t r h e = by_run (partial_after (Some Fresh) x) refl
   where
-    by_run : (o : Option Partial) → run (Some Fresh) x ≡ o → length x ≤ front_length (x ++ u)
+    by_run : (o : Option Partial) → partial_after (Some Fresh) x ≡ o → length x ≤ front_length (x ++ u)
     by_run (Some s) k = let more = front_reached (Some Fresh) x u s k in omega arith
     by_run None k =
         let (s, runs) = fits_reached p t r h in
-        absurd (let clash : None ≡ Some s = sym (ap (λ (l : List ℕ). run (Some Fresh) l) e ∙ (run-append (Some Fresh) x z ∙ ap (λ (o : Option Partial). run o z) k)) ∙ runs in cc)
+        absurd (let clash : None ≡ Some s = sym (ap (λ (l : List ℕ). partial_after (Some Fresh) l) e ∙ (run-append (Some Fresh) x z ∙ ap (λ (o : Option Partial). partial_after o z) k)) ∙ runs in cc)
 
 -- what follows a token is seen by its first byte
-pub follows_too : (t : Token) (x u v : List ℕ) → x ≢ [] → Follows t (x ++ u) → Follows t (x ++ v)
+pub follows_too : (t : TokenValue) (x u v : List ℕ) → x ≢ [] → Follows t (x ++ u) → Follows t (x ++ v)
 follows_too (token.name n) [] u v some h = absurd (some refl)
 follows_too (token.name n) (b ∷ x) u v some (more, e) = (x ++ v, λ i. first e i ∷ (x ++ v))
   where
@@ -95,7 +95,7 @@ follows_too token.opening x u v some h = tt
 follows_too token.closing x u v some h = tt
 follows_too token.semicolon x u v some h = tt
 
-pub fits_too : (p : List ℕ) (t : Token) (x u v : List ℕ) → x ≢ [] → Fits p t (x ++ u) → Fits p t (x ++ v)
+pub fits_too : (p : List ℕ) (t : TokenValue) (x u v : List ℕ) → x ≢ [] → Fits p t (x ++ u) → Fits p t (x ++ v)
 fits_too p t x u v some h = (h.0, follows_too t x u v some h.1)
 
 -- spaces at the front of two texts that begin alike: all of the common front, or what is behind them
@@ -109,7 +109,7 @@ spaces_alike (b ∷ z) u v = by_space (nat_eq b 32) (spaces_alike z u v)
     by_space true (inr (w, e, f, size)) = inr (w, e, f, omega arith)
     by_space false _ = inr (b ∷ z, refl, refl, omega arith)
 
-module _ (piece behind : List ℕ) (t : Token) (f : ℕ) (n : IsNext piece t behind)
+module _ (piece behind : List ℕ) (t : TokenValue) (f : ℕ) (n : IsNext piece t behind)
     (again : (x u v : List ℕ) (at : ℕ) (ls : List Lexeme) → past_spaces behind ≡ x ++ u → Lexes at (x ++ v) ls → length x ≤ f) where
   -- behind the piece, which is the next token in both texts
   same_piece : (x u v z b : List ℕ) (at : ℕ) (ls : List Lexeme) → x ≡ piece ++ z → behind ≡ z ++ u → b ≡ z ++ v → Lexes at (past_spaces b) ls →
@@ -133,7 +133,7 @@ module _ (piece behind : List ℕ) (t : Token) (f : ℕ) (n : IsNext piece t beh
       length x ≤ max (front_length (piece ++ behind)) (length piece + (space_count behind + f))
   beyond x u v at ls e (p, b, w, more, d, m, rest) = by_size (cases_lt (length p) (length x))
     where
-      within_token : (q r z : List ℕ) (s : Token) → Fits q s r → q ≡ x ++ z → length x ≤ max (front_length (piece ++ behind)) (length piece + (space_count behind + f))
+      within_token : (q r z : List ℕ) (s : TokenValue) → Fits q s r → q ≡ x ++ z → length x ≤ max (front_length (piece ++ behind)) (length piece + (space_count behind + f))
       within_token q r z s h front =
           let far = subst (λ (l : List ℕ). length x ≤ front_length l) (sym e) (reached x u q z s r h front) in omega arith
 
@@ -162,7 +162,7 @@ module _ (piece behind : List ℕ) (t : Token) (f : ℕ) (n : IsNext piece t beh
 pub no_further : {bs : List ℕ} {f : ℕ} → Fails bs f → (x u v : List ℕ) (at : ℕ) (ls : List Lexeme) → bs ≡ x ++ u → Lexes at (x ++ v) ls → length x ≤ f
 no_further (stuck {bs} none some) x u v at ls e l = by_cut (apart l)
   where
-    by_size : (p b : List ℕ) (t : Token) → x ++ v ≡ p ++ b → Fits p t b → ((length p < length x) ⊎ (length x ≤ length p)) → length x ≤ front_length bs
+    by_size : (p b : List ℕ) (t : TokenValue) → x ++ v ≡ p ++ b → Fits p t b → ((length p < length x) ⊎ (length x ≤ length p)) → length x ≤ front_length bs
     by_size p b t d h (inr longer) =
         let (z, front, _) = shorter_front x v p b d longer in
         subst (λ (l : List ℕ). length x ≤ front_length l) (sym e) (reached x u p z t b h front)
@@ -182,11 +182,11 @@ no_further (later {piece} {behind} {t} {f} n fails) x u v at ls e l = by_cut (ap
     by_cut (inr c) again = beyond piece behind t f n again x u v at ls e c
 
 -- A token that ends a text, with the opening bracket that a name wants.
-abbrev tail_of : Token → List ℕ
+abbrev tail_of : TokenValue → List ℕ
 tail_of (token.name n) = 40 ∷ []
 tail_of t = []
 
-pub last_token : (p : List ℕ) (t : Token) → Fits p t [] → IsNext p t []
+pub last_token : (p : List ℕ) (t : TokenValue) → Fits p t [] → IsNext p t []
 last_token p t h = record {
   fits = h;
   longest = (λ q u r e f. let a = length-append q r in let b = length-append p [] in let c = ap length e in omega arith);
@@ -216,24 +216,24 @@ last_name p n h = record {
   named = (λ m f. ap token.name (h.1 ∙ sym f.0.1));
 }
   where
-    by_rest : (q : List ℕ) (u : Token) (r : List ℕ) → q ++ r ≡ p ++ 40 ∷ [] → Fits q u r → length q ≤ length p
+    by_rest : (q : List ℕ) (u : TokenValue) (r : List ℕ) → q ++ r ≡ p ++ 40 ∷ [] → Fits q u r → length q ≤ length p
     by_rest q u (b ∷ r) e f = let a = length-append q (b ∷ r) in let b = length-append p (40 ∷ []) in let c = ap length e in omega arith
     by_rest q u [] e f =
         let (m, a, some, runs) = run_name p h.0 in
         let (s, also) = fits_reached q u [] f in
-        absurd (let clash : Some s ≡ None = sym also ∙ (ap (λ (l : List ℕ). run (Some Fresh) l) (sym (append-nil q) ∙ e)
-        ∙ (run-append (Some Fresh) p (40 ∷ []) ∙ (ap (λ (o : Option Partial). run o (40 ∷ [])) runs ∙ run_none m a))) in cc)
+        absurd (let clash : Some s ≡ None = sym also ∙ (ap (λ (l : List ℕ). partial_after (Some Fresh) l) (sym (append-nil q) ∙ e)
+        ∙ (run-append (Some Fresh) p (40 ∷ []) ∙ (ap (λ (o : Option Partial). partial_after o (40 ∷ [])) runs ∙ run_none m a))) in cc)
       where
-        run_none : (m : ℕ) (a : Address) → run (Some (Word m a)) (40 ∷ []) ≡ None
-        run_none m a = ap (λ (o : Option Partial). run o []) (closed_word m a)
+        run_none : (m : ℕ) (a : Address) → partial_after (Some (Word m a)) (40 ∷ []) ≡ None
+        run_none m a = ap (λ (o : Option Partial). partial_after o []) (closed_word m a)
 
 abbrev IsCuttable : List ℕ → Type 0
 IsCuttable bs = (at : ℕ) → (ls : List Lexeme) × Lexes at bs ls
 
-cut_last : (p : List ℕ) (t : Token) → Fits p t [] → IsCuttable (p ++ [])
+cut_last : (p : List ℕ) (t : TokenValue) → Fits p t [] → IsCuttable (p ++ [])
 cut_last p t h at = (_, cut.next (last_token p t h) cut.end)
 
-cut_ended : (p : List ℕ) (t : Token) → Spells p t → IsCuttable (p ++ tail_of t)
+cut_ended : (p : List ℕ) (t : TokenValue) → Spells p t → IsCuttable (p ++ tail_of t)
 cut_ended p (token.name n) h at = (_, cut.next (last_name p n h) (cut_last (40 ∷ []) token.opening (refl, tt) _).1)
 cut_ended p (token.numeral n) h at = cut_last p (token.numeral n) (h, tt) at
 cut_ended p (token.text t) h at = cut_last p (token.text t) (h, tt) at
@@ -271,13 +271,13 @@ length_spaces (b ∷ bs) = by_space (nat_eq b 32) (length_spaces bs)
 pub cut_tight : {at : ℕ} {bs : List ℕ} {ls : List Lexeme} → Lexes at bs ls → past_spaces bs ≡ bs
 cut_tight {at} {bs} {ls} l = by_cut (apart l)
   where
-    first : (b : ℕ) (p r : List ℕ) (t : Token) → Fits (b ∷ p) t r → (k : Bool) → nat_eq b 32 ≡ k → nat_eq b 32 ≡ false
+    first : (b : ℕ) (p r : List ℕ) (t : TokenValue) → Fits (b ∷ p) t r → (k : Bool) → nat_eq b 32 ≡ k → nat_eq b 32 ≡ false
     first b p r t h false k = k
     first b p r t h true k =
         let (s, runs) = fits_reached (b ∷ p) t r h in
-        absurd (let clash : None ≡ Some s = ap (λ (n : ℕ). run (begun n) p) (sym (same_number b 32 k)) ∙ runs in cc)
+        absurd (let clash : None ≡ Some s = ap (λ (n : ℕ). partial_after (fresh_step n) p) (sym (same_number b 32 k)) ∙ runs in cc)
 
-    begins : (p r : List ℕ) (t : Token) → Fits p t r → past_spaces (p ++ r) ≡ p ++ r
+    begins : (p r : List ℕ) (t : TokenValue) → Fits p t r → past_spaces (p ++ r) ≡ p ++ r
     begins [] r t h = absurd (no_empty_token t r h)
     begins (b ∷ p) r t h = ap (λ (k : Bool). cond k (past_spaces (p ++ r)) (b ∷ (p ++ r))) (first b p r t h (nat_eq b 32) refl)
 
@@ -308,7 +308,7 @@ past_taken (b ∷ bs) f w tight = by_space (nat_eq b 32) refl tight (past_taken 
         shift a f = omega arith
 
 -- the next token of a text that is cut off behind it and goes on otherwise
-module _ (piece x rest w : List ℕ) (t : Token) (n : IsNext piece t (x ++ rest)) (some : x ≢ []) (far : front_length (piece ++ (x ++ rest)) < length piece + length x) where
+module _ (piece x rest w : List ℕ) (t : TokenValue) (n : IsNext piece t (x ++ rest)) (some : x ≢ []) (far : front_length (piece ++ (x ++ rest)) < length piece + length x) where
   goes_otherwise : IsNext piece t (x ++ w)
   goes_otherwise = record {
     fits = fits_too piece t x rest w some n.fits;
@@ -316,7 +316,7 @@ module _ (piece x rest w : List ℕ) (t : Token) (n : IsNext piece t (x ++ rest)
     named = (λ m h. n.named m (fits_too piece (token.name m) x w rest some h));
   }
     where
-      by_size : (p : List ℕ) (u : Token) (r : List ℕ) → p ++ r ≡ piece ++ (x ++ w) → Fits p u r → ((length p < length (piece ++ x)) ⊎ (length (piece ++ x) ≤ length p)) → length p ≤ length piece
+      by_size : (p : List ℕ) (u : TokenValue) (r : List ℕ) → p ++ r ≡ piece ++ (x ++ w) → Fits p u r → ((length p < length (piece ++ x)) ⊎ (length (piece ++ x) ≤ length p)) → length p ≤ length piece
       by_size p u r e h (inr longer) =
           let (z, front, _) = shorter_front (piece ++ x) w p r (append_assoc piece x w ∙ sym e) longer in
           let more = reached (piece ++ x) rest p z u r h front in
@@ -339,7 +339,7 @@ take_beyond (x ∷ xs) ys n = ap (λ (m : ℕ). take m (x ∷ (xs ++ ys))) (shif
     shift a n = omega arith
 
 -- behind a token, as far as the rest goes
-front_behind : (piece behind : List ℕ) (t : Token) (f : ℕ) → IsNext piece t behind → IsCutFront (past_spaces behind) f →
+front_behind : (piece behind : List ℕ) (t : TokenValue) (f : ℕ) → IsNext piece t behind → IsCutFront (past_spaces behind) f →
     front_length (piece ++ behind) < length piece + (space_count behind + f) → IsCutFront (piece ++ behind) (length piece + (space_count behind + f))
 front_behind piece behind t f n (within, (w, cuts)) far =
     let count = space_count behind + f in

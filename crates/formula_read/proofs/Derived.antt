@@ -10,13 +10,13 @@ use Rattle.formula_tree.specs.declared.functions.Fun.{Fun}
 use Rattle.formula_tree.specs.Tree.{Tree, Trees, trees_from}
 use Rattle.formula_tree.specs.Tree as tree
 use Rattle.formula_tree.specs.Precedence.{precedence_of_operator}
-use Rattle.formula_tree.specs.Tokens.{Token, sign, opening, closing, semicolon}
+use Rattle.formula_tree.specs.Tokens.{TokenValue, sign, opening, closing, semicolon}
 use Rattle.formula_tree.specs.Grammar.{Derives, Arguments, Listed, operator_of_sign}
 use Rattle.formula_tree.specs.Grammar as grammar
 use Rattle.formula_read.specs.declared.stack.Frame.{Frame}
 use Rattle.formula_read.specs.declared.stack.Frame.TheVariants.{Sign, Left, Group, Call}
 use Rattle.formula_read.specs.Nested.{Nested, NestedList, no_arguments, with_argument}
-use Rattle.formula_read.specs.Stack.{State, start, waiting, standing, wanted, joined, settled, operator_behind, closed, parted, stepped, walked, alone, finished_at}
+use Rattle.formula_read.specs.Stack.{State, start, waiting, standing, wanted, completed, reduced, operator_behind, closed, parted, stepped, walked, alone, finished_at}
 use Rattle.formula_read.proofs.Choices.{same}
 use Rattle.formula_read.proofs.Syntax.{most_precedence}
 use Rattle.formula_read.proofs.NamedFunctions.{function_named-name_of}
@@ -24,7 +24,7 @@ use Rattle.formula_read.proofs.NamedFunctions.{function_named-name_of}
 abbrev nested : Tree Spot Span → ℕ → Nested
 nested t n = record { tree = t; nesting = n }
 
-walked-append : (o : Option State) (xs ys : List Token) → walked o (xs ++ ys) ≡ walked (walked o xs) ys
+walked-append : (o : Option State) (xs ys : List TokenValue) → walked o (xs ++ ys) ≡ walked (walked o xs) ys
 walked-append None xs ys = refl
 walked-append (Some s) [] ys = refl
 walked-append (Some s) (x ∷ xs) ys = walked-append (stepped s.side s.frames x) xs ys
@@ -37,30 +37,30 @@ wanted_behind (f ∷ fs) = wanted f
 looser_test : (p w : ℕ) → w ≤ p → nat_lt p w ≡ false
 looser_test p w h = grind (arith, nat_tests)
 
-stays : (p : ℕ) (x : Nested) (fs : List Frame) → wanted_behind fs ≤ p → settled p x fs ≡ (x, fs)
+stays : (p : ℕ) (x : Nested) (fs : List Frame) → wanted_behind fs ≤ p → reduced p x fs ≡ (x, fs)
 stays p x [] h = refl
-stays p x (f ∷ fs) h = ap (λ (t : Bool). cond t (settled p (joined f x) fs) (x, f ∷ fs)) (looser_test p (wanted f) h)
+stays p x (f ∷ fs) h = ap (λ (t : Bool). cond t (reduced p (completed f x) fs) (x, f ∷ fs)) (looser_test p (wanted f) h)
 
-goes : (p : ℕ) (x : Nested) (f : Frame) (fs : List Frame) → p < wanted f → settled p x (f ∷ fs) ≡ settled p (joined f x) fs
-goes p x f fs h = ap (λ (t : Bool). cond t (settled p (joined f x) fs) (x, f ∷ fs)) (lt-ltb p (wanted f) h)
+goes : (p : ℕ) (x : Nested) (f : Frame) (fs : List Frame) → p < wanted f → reduced p x (f ∷ fs) ≡ reduced p (completed f x) fs
+goes p x f fs h = ap (λ (t : Bool). cond t (reduced p (completed f x) fs) (x, f ∷ fs)) (lt-ltb p (wanted f) h)
 
 -- The reader ends with some operand and what waits for it, and goes on from there as with the whole operand: behind
 -- tokens that bind at least as tightly as p, no sign that binds more tightly than p can follow.
-record IsRead (p : ℕ) (fs : List Frame) (ts : List Token) (x : Nested) : Type 0 where
+record IsRead (p : ℕ) (fs : List Frame) (ts : List TokenValue) (x : Nested) : Type 0 where
   operand : Nested
   waits : List Frame
   walks : walked (Some (waiting fs)) ts ≡ Some (standing operand waits)
-  agrees : (q : ℕ) → q ≤ p → q ≤ 5 → settled q operand waits ≡ settled q x fs
+  agrees : (q : ℕ) → q ≤ p → q ≤ 5 → reduced q operand waits ≡ reduced q x fs
 
-by_itself : (p : ℕ) (fs : List Frame) (ts : List Token) (x : Nested) → walked (Some (waiting fs)) ts ≡ Some (standing x fs) → IsRead p fs ts x
+by_itself : (p : ℕ) (fs : List Frame) (ts : List TokenValue) (x : Nested) → walked (Some (waiting fs)) ts ≡ Some (standing x fs) → IsRead p fs ts x
 by_itself p fs ts x h = record { operand = x; waits = fs; walks = h; agrees = λ q _ _. refl }
 
 -- behind tokens that were read
-behind_read : {p : ℕ} {fs : List Frame} {ts : List Token} {x : Nested} → IsRead p fs ts x → (us : List Token) → (y : Nested) × (gs : List Frame) ×
-    (walked (Some (waiting fs)) (ts ++ us) ≡ walked (Some (standing y gs)) us) × ((q : ℕ) → q ≤ p → q ≤ 5 → settled q y gs ≡ settled q x fs)
+behind_read : {p : ℕ} {fs : List Frame} {ts : List TokenValue} {x : Nested} → IsRead p fs ts x → (us : List TokenValue) → (y : Nested) × (gs : List Frame) ×
+    (walked (Some (waiting fs)) (ts ++ us) ≡ walked (Some (standing y gs)) us) × ((q : ℕ) → q ≤ p → q ≤ 5 → reduced q y gs ≡ reduced q x fs)
 behind_read {p} {fs} {ts} {x} r us = (r.operand, r.waits, walked-append (Some (waiting fs)) ts us ∙ ap (λ (o : Option State). walked o us) r.walks, r.agrees)
 
-module _ (fs : List Frame) (ts us : List Token) (x : Nested) where
+module _ (fs : List Frame) (ts us : List TokenValue) (x : Nested) where
   operator_read : (p : ℕ) (op : BinOp) → precedence_of_operator op ≤ p → wanted_behind fs ≤ precedence_of_operator op → IsRead p fs ts x →
       walked (Some (waiting fs)) (ts ++ sign op ∷ us) ≡ walked (Some (waiting (Left x op ∷ fs))) us
   operator_read p op tight low r =
@@ -69,7 +69,7 @@ module _ (fs : List Frame) (ts us : List Token) (x : Nested) where
       (agrees (precedence_of_operator op) tight (most_precedence op) ∙ stays (precedence_of_operator op) x fs low)
 
   closing_read : (f : Frame) → wanted f ≡ 1 → IsRead 1 (f ∷ fs) ts x →
-      walked (Some (waiting (f ∷ fs))) (ts ++ closing ∷ us) ≡ walked (Some (standing (joined f x) fs)) us
+      walked (Some (waiting (f ∷ fs))) (ts ++ closing ∷ us) ≡ walked (Some (standing (completed f x) fs)) us
   closing_read f w r =
       let (y, gs, walks, agrees) = behind_read r (closing ∷ us) in
       walks ∙ ap (λ (z : Nested × List Frame). walked (closed z) us) (agrees 1 (omega arith) (omega arith) ∙ stays 1 x (f ∷ fs) (omega arith))
@@ -104,7 +104,7 @@ more_nested : (a b c : ℕ) → max (max a b) c ≡ max a (max b c)
 more_nested a b c = omega arith
 
 mutual
-  derives_walked : {p n : ℕ} {ts : List Token} {t : Tree Spot Span} → Derives p ts t n → (fs : List Frame) → wanted_behind fs ≤ p → IsRead p fs ts (nested t n)
+  derives_walked : {p n : ℕ} {ts : List TokenValue} {t : Tree Spot Span} → Derives p ts t n → (fs : List Frame) → wanted_behind fs ≤ p → IsRead p fs ts (nested t n)
   derives_walked (grammar.tighter d) fs low =
       let r = derives_walked d fs (omega arith) in
       record { operand = r.operand; waits = r.waits; walks = r.walks; agrees = λ q h k. r.agrees q (omega arith) k }
@@ -144,13 +144,13 @@ mutual
       by_itself _ fs _ _
       (ap (λ (g : Fun). walked (Some (waiting (Call g no_arguments ∷ fs))) (ts ++ closing ∷ [])) (function_named-name_of fun f) ∙ arguments_walked a fun fs)
 
-  arguments_walked : {n : ℕ} {ts : List Token} {args : Trees Spot Span} → Arguments ts args n → (fun : Fun) (fs : List Frame) →
+  arguments_walked : {n : ℕ} {ts : List TokenValue} {args : Trees Spot Span} → Arguments ts args n → (fun : Fun) (fs : List Frame) →
       walked (Some (waiting (Call fun no_arguments ∷ fs))) (ts ++ closing ∷ []) ≡ Some (standing (nested (tree.call fun args) (suc n)) fs)
   arguments_walked grammar.empty fun fs = refl
   arguments_walked (grammar.some {n = n} {args = args} l) fun fs =
       listed_walked l fun no_arguments fs ∙ (λ i. Some (standing (nested (tree.call fun args) (suc (none_more n i))) fs))
 
-  listed_walked : {n : ℕ} {ts : List Token} {args : Trees Spot Span} → Listed ts args n → (fun : Fun) (done : NestedList) (fs : List Frame) →
+  listed_walked : {n : ℕ} {ts : List TokenValue} {args : Trees Spot Span} → Listed ts args n → (fun : Fun) (done : NestedList) (fs : List Frame) →
       walked (Some (waiting (Call fun done ∷ fs))) (ts ++ closing ∷ []) ≡ Some (standing (called_with fun done args n) fs)
   listed_walked (grammar.last {n = n} {ts = ts} {t = t} d) fun done fs =
       closing_read fs ts [] (nested t n) (Call fun done) refl (derives_walked d (Call fun done ∷ fs) (omega arith))
@@ -162,14 +162,14 @@ mutual
       ∙ (λ i. Some (standing (nested (tree.call fun (listed-more done.trees t args i)) (suc (more_nested done.nesting m n i))) fs))))
 
 -- an expression's tokens behind a formula's `=`
-pub expression_walked : (head : Token) (ts : List Token) (t : Tree Spot Span) (n : ℕ) → Derives 1 ts t n →
+pub expression_walked : (head : TokenValue) (ts : List TokenValue) (t : Tree Spot Span) (n : ℕ) → Derives 1 ts t n →
     finished_at (walked (Some start) (head ∷ ts)) ≡ Some (record { tree = t; nesting = n })
 expression_walked head ts t n d =
     let r = derives_walked d [] (omega arith) in
     ap finished_at r.walks ∙ ap alone (r.agrees 1 (omega arith) (omega arith))
 
 -- the tokens of an expression have one tree and one nesting
-pub one_derivation : (ts : List Token) (t u : Tree Spot Span) (n m : ℕ) → Derives 1 ts t n → Derives 1 ts u m → (t ≡ u) × (n ≡ m)
+pub one_derivation : (ts : List TokenValue) (t u : Tree Spot Span) (n m : ℕ) → Derives 1 ts t n → Derives 1 ts u m → (t ≡ u) × (n ≡ m)
 one_derivation ts t u n m d e =
     let p = same (sym (expression_walked opening ts t n d) ∙ expression_walked opening ts u m e) in
     ((λ i. (p i).tree), (λ i. (p i).nesting))

@@ -10,7 +10,7 @@ use Rattle.formula_tree.specs.Tree as tree
 use Rattle.formula_tree.specs.Precedence.{precedence_of, precedence_of_operator}
 use Rattle.formula_tree.specs.Measures.{placed_nesting, print_nesting, greatest_nesting, node_count, node_counts}
 use Rattle.formula_tree.specs.WellFormed.{IsCell, IsRange, IsWellFormed, AreWellFormed, IsFormula}
-use Rattle.formula_tree.specs.Tokens.{Token, Spells, IsNext, is_printable, numeral, text, fault, cell, range, name, sign, opening, closing, semicolon}
+use Rattle.formula_tree.specs.Tokens.{TokenValue, Spells, IsNext, is_printable, numeral, text, fault, cell, range, name, sign, opening, closing, semicolon}
 use Rattle.formula_tree.specs.Lexing.{Lexeme, Lexes, space_count, past_spaces}
 use Rattle.formula_tree.specs.Lexing as cut
 use Rattle.formula_tree.specs.Grammar.{Derives, Arguments, Listed, Stands}
@@ -21,14 +21,14 @@ use Rattle.formula_read.proofs.Next.{no_empty_token}
 use Rattle.formula_read.proofs.Values.{cell_within, range_is_range}
 
 -- A token that some bytes spell.
-abbrev IsSpelled : Token → Type 0
+abbrev IsSpelled : TokenValue → Type 0
 IsSpelled (numeral n) = n < 2 ^ 63
 IsSpelled (text t) = list_all is_printable t ≡ true
 IsSpelled (cell c) = IsCell c
 IsSpelled (range r) = IsRange r
 IsSpelled t = Unit {0}
 
-spelled : (p : List ℕ) (t : Token) → Spells p t → IsSpelled t
+spelled : (p : List ℕ) (t : TokenValue) → Spells p t → IsSpelled t
 spelled p (numeral n) h = h.2
 spelled p (text t) h = h.1
 spelled p (cell c) h = cell_within p c h
@@ -40,16 +40,16 @@ spelled p opening h = tt
 spelled p closing h = tt
 spelled p semicolon h = tt
 
-abbrev AreSpelled : List Token → Type 0
+abbrev AreSpelled : List TokenValue → Type 0
 AreSpelled [] = Unit {0}
 AreSpelled (t ∷ ts) = IsSpelled t × AreSpelled ts
 
-spelled_parts : (xs ys : List Token) → AreSpelled (xs ++ ys) → AreSpelled xs × AreSpelled ys
+spelled_parts : (xs ys : List TokenValue) → AreSpelled (xs ++ ys) → AreSpelled xs × AreSpelled ys
 spelled_parts [] ys h = (tt, h)
 spelled_parts (x ∷ xs) ys h = let (front, back) = spelled_parts xs ys h.1 in ((h.0, front), back)
 
 mutual
-  derived_formed : {p n : ℕ} {ts : List Token} {t : Tree Spot Span} → Derives p ts t n → AreSpelled ts → IsWellFormed t
+  derived_formed : {p n : ℕ} {ts : List TokenValue} {t : Tree Spot Span} → Derives p ts t n → AreSpelled ts → IsWellFormed t
   derived_formed (grammar.tighter d) h = derived_formed d h
   derived_formed (grammar.binary {op = op} {ss = ss} {ts = ts} d e) h =
       let (front, back) = spelled_parts ss (sign op ∷ ts) h in (derived_formed d front, derived_formed e back.1)
@@ -62,11 +62,11 @@ mutual
   derived_formed (grammar.brackets {ts = ts} d) h = derived_formed d (spelled_parts ts (closing ∷ []) h.1).0
   derived_formed (grammar.call {ts = ts} f a) h = (f, arguments_formed a (spelled_parts ts (closing ∷ []) h.1.1).0)
 
-  arguments_formed : {n : ℕ} {ts : List Token} {args : Trees Spot Span} → Arguments ts args n → AreSpelled ts → AreWellFormed args
+  arguments_formed : {n : ℕ} {ts : List TokenValue} {args : Trees Spot Span} → Arguments ts args n → AreSpelled ts → AreWellFormed args
   arguments_formed grammar.empty h = tt
   arguments_formed (grammar.some l) h = listed_formed l h
 
-  listed_formed : {n : ℕ} {ts : List Token} {args : Trees Spot Span} → Listed ts args n → AreSpelled ts → AreWellFormed args
+  listed_formed : {n : ℕ} {ts : List TokenValue} {args : Trees Spot Span} → Listed ts args n → AreSpelled ts → AreWellFormed args
   listed_formed (grammar.last d) h = (derived_formed d h, tt)
   listed_formed (grammar.more {ts = ts} {us = us} d l) h =
       let (front, back) = spelled_parts ts (semicolon ∷ us) h in (derived_formed d front, listed_formed l back.1)
@@ -108,7 +108,7 @@ in_brackets t n h =
     omega arith
 
 mutual
-  derived_shallow : {p n : ℕ} {ts : List Token} {t : Tree Spot Span} → Derives p ts t n → placed p t ≤ n
+  derived_shallow : {p n : ℕ} {ts : List TokenValue} {t : Tree Spot Span} → Derives p ts t n → placed p t ≤ n
   derived_shallow {p} {n} (grammar.tighter {t = t} d) = let more = derived_shallow d in let step = placed_tighter p (precedence_of t) (print_nesting t) in omega arith
   derived_shallow (grammar.binary {op = op} {s = s} {t = t} d e) =
       let left = derived_shallow d in
@@ -124,17 +124,17 @@ mutual
   derived_shallow (grammar.brackets {n = n} {t = t} d) = in_brackets t n (derived_shallow d)
   derived_shallow (grammar.call f a) = let more = arguments_shallow a in omega arith
 
-  arguments_shallow : {n : ℕ} {ts : List Token} {args : Trees Spot Span} → Arguments ts args n → greatest_nesting args ≤ n
+  arguments_shallow : {n : ℕ} {ts : List TokenValue} {args : Trees Spot Span} → Arguments ts args n → greatest_nesting args ≤ n
   arguments_shallow grammar.empty = omega arith
   arguments_shallow (grammar.some l) = listed_shallow l
 
-  listed_shallow : {n : ℕ} {ts : List Token} {args : Trees Spot Span} → Listed ts args n → greatest_nesting args ≤ n
+  listed_shallow : {n : ℕ} {ts : List TokenValue} {args : Trees Spot Span} → Listed ts args n → greatest_nesting args ≤ n
   listed_shallow (grammar.last {n = n} {t = t} d) = let low = unplaced t n (derived_shallow d) in omega arith
   listed_shallow (grammar.more {m = m} {n = n} {t = t} d l) = let low = unplaced t m (derived_shallow d) in let rest = listed_shallow l in omega arith
 
 -- Each node has a token.
 mutual
-  derived_small : {p n : ℕ} {ts : List Token} {t : Tree Spot Span} → Derives p ts t n → node_count t ≤ length ts
+  derived_small : {p n : ℕ} {ts : List TokenValue} {t : Tree Spot Span} → Derives p ts t n → node_count t ≤ length ts
   derived_small (grammar.tighter d) = derived_small d
   derived_small (grammar.binary {op = op} {ss = ss} {ts = ts} d e) =
       let left = derived_small d in let right = derived_small e in let size = length-append ss (sign op ∷ ts) in omega arith
@@ -147,11 +147,11 @@ mutual
   derived_small (grammar.brackets {ts = ts} d) = let more = derived_small d in let size = length-append ts (closing ∷ []) in omega arith
   derived_small (grammar.call {ts = ts} f a) = let more = arguments_small a in let size = length-append ts (closing ∷ []) in omega arith
 
-  arguments_small : {n : ℕ} {ts : List Token} {args : Trees Spot Span} → Arguments ts args n → node_counts args ≤ length ts
+  arguments_small : {n : ℕ} {ts : List TokenValue} {args : Trees Spot Span} → Arguments ts args n → node_counts args ≤ length ts
   arguments_small grammar.empty = omega arith
   arguments_small (grammar.some l) = listed_small l
 
-  listed_small : {n : ℕ} {ts : List Token} {args : Trees Spot Span} → Listed ts args n → node_counts args ≤ length ts
+  listed_small : {n : ℕ} {ts : List TokenValue} {args : Trees Spot Span} → Listed ts args n → node_counts args ≤ length ts
   listed_small (grammar.last d) = let more = derived_small d in omega arith
   listed_small (grammar.more {ts = ts} {us = us} d l) =
       let here = derived_small d in let rest = listed_small l in let size = length-append ts (semicolon ∷ us) in omega arith
@@ -161,7 +161,7 @@ cut_spelled : {at : ℕ} {bs : List ℕ} {ls : List Lexeme} → Lexes at bs ls �
 cut_spelled cut.end = tt
 cut_spelled (cut.next {piece = piece} {t = t} n more) = (spelled piece t n.fits.0, cut_spelled more)
 
-some_byte : (p : List ℕ) (t : Token) (r : List ℕ) → IsNext p t r → 1 ≤ length p
+some_byte : (p : List ℕ) (t : TokenValue) (r : List ℕ) → IsNext p t r → 1 ≤ length p
 some_byte [] t r n = absurd (no_empty_token t r n.fits)
 some_byte (b ∷ bs) t r n = omega arith
 

@@ -7,7 +7,7 @@ use Rattle.std.proofs.lemmas.Bool.Decides.{nat_tests}
 use Rattle.std.proofs.lemmas.List.{append-nil}
 use Rattle.formula_tree.specs.declared.operators.BinOp.{BinOp}
 use Rattle.formula_tree.specs.declared.operators.BinOp.TheVariants.{Pow, Mul, Div, Add, Sub, Join, Eq, Ne, Lt, Le, Gt, Ge}
-use Rattle.formula_tree.specs.Tokens.{Token, Spells, Follows, Fits, IsNext, is_name, is_name_byte, sign_text, error_name}
+use Rattle.formula_tree.specs.Tokens.{TokenValue, Spells, Follows, Fits, IsNext, is_name, is_name_byte, sign_text, error_name}
 use Rattle.formula_tree.specs.Tokens as token
 use Rattle.formula_tree.specs.Lexing.{Lexeme, Lexes, space_count, past_spaces}
 use Rattle.formula_tree.specs.Lexing as cut
@@ -18,12 +18,14 @@ use Rattle.formula_read.specs.declared.partial.Partial.TheVariants.{Fresh, Numer
 use Rattle.formula_read.specs.declared.partial.Address.{Address}
 use Rattle.formula_read.specs.declared.partial.Address.TheVariants.{Neither, Cell, Range}
 use Rattle.formula_read.specs.declared.partial.Corner.TheVariants.{Start, Dollar, Letters, Fixed, Digits}
-use Rattle.formula_read.specs.Partial.{step, begun, address_kind, is_open, kind_at}
-use Rattle.formula_read.specs.Longest.{run}
-use Rattle.formula_tree.specs.Grammar.{IsFront}
-use Rattle.formula_read.specs.Read.{kind_of}
-use Rattle.formula_read.specs.Places.{Bracket, group, call, Place, head, wants, has, named, begins, operand, closed, parted, advance, advance_all, tokens_of, IsFormulaText}
-use Rattle.formula_read.specs.Reading.{after_kind, begins_leaf, begins_operand, begins_sign, admits, with_token, entered, between, between_at, place_after, inside, is_fresh, read_byte, read_text, place_at_end, ended}
+use Rattle.formula_read.specs.Partial.{partial_step, fresh_step, address_kind, is_open, kind_at}
+use Rattle.formula_read.specs.Longest.{partial_after}
+use Rattle.formula_tree.specs.Grammar.{IsFront, IsFormulaText}
+use Rattle.formula_read.specs.Read.{token_kind}
+use Rattle.formula_read.specs.declared.brackets.Bracket.{Bracket}
+use Rattle.formula_read.specs.declared.brackets.Bracket.TheVariants.{Group, Call}
+use Rattle.formula_read.specs.Places.{Place, head, wants, has, named, begins, operand, behind_closing, behind_semicolon, advance, advance_all, tokens_of}
+use Rattle.formula_read.specs.Reading.{after_kind, begins_leaf, begins_operand, begins_sign, admits, with_token, read_first, read_between, read_between_at, place_after, inside, is_fresh, read_byte, read_text, place_at_end, place_ended}
 use Rattle.formula_read.proofs.Words.{run_cell, run_range, run_name}
 use Rattle.formula_read.proofs.Choices.{on_test, nothing, same, same_number}
 use Rattle.formula_read.proofs.Forms.{Ends, run-append, fresh_holds, sound, name_ends, plain_ends}
@@ -52,7 +54,7 @@ some_of None h = absurd (cc)
 some_of (Some x) h = (x, refl)
 
 -- where the place admits a token's first byte, the token may stand there
-operand_some : (ds : List Bracket) (t : Token) (b : ℕ) → Starts t b → begins_operand b ≡ true → (p : Place) × (operand ds t ≡ Some p)
+operand_some : (ds : List Bracket) (t : TokenValue) (b : ℕ) → Starts t b → begins_operand b ≡ true → (p : Place) × (operand ds t ≡ Some p)
 operand_some ds (token.numeral n) b h a = (has ds, refl)
 operand_some ds (token.text n) b h a = (has ds, refl)
 operand_some ds (token.fault n) b h a = (has ds, refl)
@@ -71,11 +73,11 @@ operand_some ds (token.sign Lt) b h a = clash begins_operand b _ (first_of h.1) 
 operand_some ds (token.sign Le) b h a = clash begins_operand b _ (first_of h.1) a refl
 operand_some ds (token.sign Gt) b h a = clash begins_operand b _ (first_of h.1) a refl
 operand_some ds (token.sign Ge) b h a = clash begins_operand b _ (first_of h.1) a refl
-operand_some ds token.opening b h a = (wants (group ∷ ds), refl)
+operand_some ds token.opening b h a = (wants (Group ∷ ds), refl)
 operand_some ds token.closing b h a = clash begins_operand b 41 (sym h) a refl
 operand_some ds token.semicolon b h a = clash begins_operand b 59 (sym h) a refl
 
-advance_some : (q : Place) (t : Token) (b : ℕ) → Starts t b → admits q b ≡ true → (p : Place) × (advance q t ≡ Some p)
+advance_some : (q : Place) (t : TokenValue) (b : ℕ) → Starts t b → admits q b ≡ true → (p : Place) × (advance q t ≡ Some p)
 advance_some head (token.numeral n) b h a = leaf_no b 61 h a refl
 advance_some head (token.text n) b h a = leaf_no b 61 h a refl
 advance_some head (token.fault n) b h a = leaf_no b 61 h a refl
@@ -98,20 +100,20 @@ advance_some head token.opening b h a = clash (λ (b : ℕ). nat_eq b 61) b 40 (
 advance_some head token.closing b h a = clash (λ (b : ℕ). nat_eq b 61) b 41 (sym h) a refl
 advance_some head token.semicolon b h a = clash (λ (b : ℕ). nat_eq b 61) b 59 (sym h) a refl
 advance_some (wants ds) t b h a = operand_some ds t b h a
-advance_some (has ds) (token.numeral n) b h a = leaf_no_sign b (is_some (closed ds)) (is_some (parted ds)) h a
-advance_some (has ds) (token.text n) b h a = leaf_no_sign b (is_some (closed ds)) (is_some (parted ds)) h a
-advance_some (has ds) (token.fault n) b h a = leaf_no_sign b (is_some (closed ds)) (is_some (parted ds)) h a
-advance_some (has ds) (token.cell n) b h a = leaf_no_sign b (is_some (closed ds)) (is_some (parted ds)) h a
-advance_some (has ds) (token.range n) b h a = leaf_no_sign b (is_some (closed ds)) (is_some (parted ds)) h a
-advance_some (has ds) (token.name n) b h a = leaf_no_sign b (is_some (closed ds)) (is_some (parted ds)) h a
+advance_some (has ds) (token.numeral n) b h a = leaf_no_sign b (is_some (behind_closing ds)) (is_some (behind_semicolon ds)) h a
+advance_some (has ds) (token.text n) b h a = leaf_no_sign b (is_some (behind_closing ds)) (is_some (behind_semicolon ds)) h a
+advance_some (has ds) (token.fault n) b h a = leaf_no_sign b (is_some (behind_closing ds)) (is_some (behind_semicolon ds)) h a
+advance_some (has ds) (token.cell n) b h a = leaf_no_sign b (is_some (behind_closing ds)) (is_some (behind_semicolon ds)) h a
+advance_some (has ds) (token.range n) b h a = leaf_no_sign b (is_some (behind_closing ds)) (is_some (behind_semicolon ds)) h a
+advance_some (has ds) (token.name n) b h a = leaf_no_sign b (is_some (behind_closing ds)) (is_some (behind_semicolon ds)) h a
 advance_some (has ds) (token.sign op) b h a = (wants ds, refl)
 advance_some (has ds) token.opening b h a = clash (admits (has ds)) b 40 (sym h) a refl
-advance_some (has ds) token.closing b h a = some_of (closed ds) (closing_some (is_some (closed ds)) (is_some (parted ds)) (ap (λ (b : ℕ). begins_sign b || ((nat_eq b 41 && is_some (closed ds)) || (nat_eq b 59 && is_some (parted ds)))) (sym h) ∙ a))
+advance_some (has ds) token.closing b h a = some_of (behind_closing ds) (closing_some (is_some (behind_closing ds)) (is_some (behind_semicolon ds)) (ap (λ (b : ℕ). begins_sign b || ((nat_eq b 41 && is_some (behind_closing ds)) || (nat_eq b 59 && is_some (behind_semicolon ds)))) (sym h) ∙ a))
   where
     closing_some : (t u : Bool) → (begins_sign 41 || ((nat_eq 41 41 && t) || (nat_eq 41 59 && u))) ≡ true → t ≡ true
     closing_some true u k = refl
     closing_some false u k = absurd (cc)
-advance_some (has ds) token.semicolon b h a = some_of (parted ds) (parted_some (is_some (closed ds)) (is_some (parted ds)) (ap (λ (b : ℕ). begins_sign b || ((nat_eq b 41 && is_some (closed ds)) || (nat_eq b 59 && is_some (parted ds)))) (sym h) ∙ a))
+advance_some (has ds) token.semicolon b h a = some_of (behind_semicolon ds) (parted_some (is_some (behind_closing ds)) (is_some (behind_semicolon ds)) (ap (λ (b : ℕ). begins_sign b || ((nat_eq b 41 && is_some (behind_closing ds)) || (nat_eq b 59 && is_some (behind_semicolon ds)))) (sym h) ∙ a))
   where
     parted_some : (t u : Bool) → (begins_sign 59 || ((nat_eq 59 41 && t) || (nat_eq 59 59 && u))) ≡ true → u ≡ true
     parted_some t true k = refl
@@ -138,17 +140,17 @@ advance_some (named ds) token.opening b h a = (begins ds, refl)
 advance_some (named ds) token.closing b h a = clash (λ (b : ℕ). nat_eq b 40) b 41 (sym h) a refl
 advance_some (named ds) token.semicolon b h a = clash (λ (b : ℕ). nat_eq b 40) b 59 (sym h) a refl
 advance_some (begins ds) token.closing b h a = (has ds, refl)
-advance_some (begins ds) (token.numeral n) b h a = (has (call ∷ ds), refl)
-advance_some (begins ds) (token.text n) b h a = (has (call ∷ ds), refl)
-advance_some (begins ds) (token.fault n) b h a = (has (call ∷ ds), refl)
-advance_some (begins ds) (token.cell n) b h a = (has (call ∷ ds), refl)
-advance_some (begins ds) (token.range n) b h a = (has (call ∷ ds), refl)
-advance_some (begins ds) (token.name n) b h a = (named (call ∷ ds), refl)
+advance_some (begins ds) (token.numeral n) b h a = (has (Call ∷ ds), refl)
+advance_some (begins ds) (token.text n) b h a = (has (Call ∷ ds), refl)
+advance_some (begins ds) (token.fault n) b h a = (has (Call ∷ ds), refl)
+advance_some (begins ds) (token.cell n) b h a = (has (Call ∷ ds), refl)
+advance_some (begins ds) (token.range n) b h a = (has (Call ∷ ds), refl)
+advance_some (begins ds) (token.name n) b h a = (named (Call ∷ ds), refl)
 advance_some (begins ds) (token.sign Pow) b h a = clash (admits (begins ds)) b _ (first_of h.1) a refl
 advance_some (begins ds) (token.sign Mul) b h a = clash (admits (begins ds)) b _ (first_of h.1) a refl
 advance_some (begins ds) (token.sign Div) b h a = clash (admits (begins ds)) b _ (first_of h.1) a refl
-advance_some (begins ds) (token.sign Add) b h a = (wants (call ∷ ds), refl)
-advance_some (begins ds) (token.sign Sub) b h a = (wants (call ∷ ds), refl)
+advance_some (begins ds) (token.sign Add) b h a = (wants (Call ∷ ds), refl)
+advance_some (begins ds) (token.sign Sub) b h a = (wants (Call ∷ ds), refl)
 advance_some (begins ds) (token.sign Join) b h a = clash (admits (begins ds)) b _ (first_of h.1) a refl
 advance_some (begins ds) (token.sign Eq) b h a = clash (admits (begins ds)) b _ (first_of h.1) a refl
 advance_some (begins ds) (token.sign Ne) b h a = clash (admits (begins ds)) b _ (first_of h.1) a refl
@@ -156,54 +158,54 @@ advance_some (begins ds) (token.sign Lt) b h a = clash (admits (begins ds)) b _ 
 advance_some (begins ds) (token.sign Le) b h a = clash (admits (begins ds)) b _ (first_of h.1) a refl
 advance_some (begins ds) (token.sign Gt) b h a = clash (admits (begins ds)) b _ (first_of h.1) a refl
 advance_some (begins ds) (token.sign Ge) b h a = clash (admits (begins ds)) b _ (first_of h.1) a refl
-advance_some (begins ds) token.opening b h a = (wants (group ∷ call ∷ ds), refl)
+advance_some (begins ds) token.opening b h a = (wants (Group ∷ Call ∷ ds), refl)
 advance_some (begins ds) token.semicolon b h a = clash (admits (begins ds)) b 59 (sym h) a refl
 
 -- a text cut into these tokens, wherever it stands
-abbrev CutAs : List ℕ → List Token → Type 0
+abbrev CutAs : List ℕ → List TokenValue → Type 0
 CutAs bs ts = (at : ℕ) → (ls : List Lexeme) × Lexes at bs ls × (tokens_of ls ≡ ts)
 
 cut_none : CutAs [] []
 cut_none at = ([], cut.end, refl)
 
-cut_one : (p : List ℕ) (t : Token) (r : List ℕ) (ts : List Token) → IsNext p t r → CutAs (past_spaces r) ts → CutAs (p ++ r) (t ∷ ts)
-cut_one p t r ts n c at = let (ls, l, e) = c (at + length p + space_count r) in (_, cut.next n l, ap (λ (ts : List Token). t ∷ ts) e)
+cut_one : (p : List ℕ) (t : TokenValue) (r : List ℕ) (ts : List TokenValue) → IsNext p t r → CutAs (past_spaces r) ts → CutAs (p ++ r) (t ∷ ts)
+cut_one p t r ts n c at = let (ls, l, e) = c (at + length p + space_count r) in (_, cut.next n l, ap (λ (ts : List TokenValue). t ∷ ts) e)
 
-cut_as_tight : (bs : List ℕ) (ts : List Token) → CutAs bs ts → past_spaces bs ≡ bs
+cut_as_tight : (bs : List ℕ) (ts : List TokenValue) → CutAs bs ts → past_spaces bs ≡ bs
 cut_as_tight bs ts c = let (ls, l, _) = c 0 in cut_tight l
 
 -- a token that can't go on with the byte behind it is the next one
-stopped : (p : List ℕ) (t : Token) (s : Partial) (b : ℕ) (bs : List ℕ) → Fits p t (b ∷ bs) → run (Some Fresh) p ≡ Some s → step s b ≡ None → ((n : List ℕ) → Fits p (token.name n) (b ∷ bs) → t ≡ token.name n) → IsNext p t (b ∷ bs)
+stopped : (p : List ℕ) (t : TokenValue) (s : Partial) (b : ℕ) (bs : List ℕ) → Fits p t (b ∷ bs) → partial_after (Some Fresh) p ≡ Some s → partial_step s b ≡ None → ((n : List ℕ) → Fits p (token.name n) (b ∷ bs) → t ≡ token.name n) → IsNext p t (b ∷ bs)
 stopped p t s b bs fits runs stops name = record {
   fits = fits;
   longest = (λ q u r e f. by_size q u r e f (cases_lt (length p) (length q)));
   named = name;
 }
   where
-    by_rest : (q : List ℕ) (u : Token) (r : List ℕ) (z : List ℕ) → Fits q u r → q ≡ p ++ z → b ∷ bs ≡ z ++ r → length q ≤ length p
+    by_rest : (q : List ℕ) (u : TokenValue) (r : List ℕ) (z : List ℕ) → Fits q u r → q ≡ p ++ z → b ∷ bs ≡ z ++ r → length q ≤ length p
     by_rest q u r [] f front rest = let size = ap length (front ∙ append-nil p) in omega arith
     by_rest q u r (c ∷ z) f front rest =
         let (last, also) = fits_reached q u r f in
         absurd (let wrong : None ≡ Some last =
-        sym (ap (run (Some Fresh)) front ∙ (run-append (Some Fresh) p (c ∷ z) ∙ (ap (λ (o : Option Partial). run o (c ∷ z)) runs
-        ∙ (ap (λ (c : ℕ). run (step s c) z) (sym (first_of rest)) ∙ ap (λ (o : Option Partial). run o z) stops)))) ∙ also in cc)
+        sym (ap (partial_after (Some Fresh)) front ∙ (run-append (Some Fresh) p (c ∷ z) ∙ (ap (λ (o : Option Partial). partial_after o (c ∷ z)) runs
+        ∙ (ap (λ (c : ℕ). partial_after (partial_step s c) z) (sym (first_of rest)) ∙ ap (λ (o : Option Partial). partial_after o z) stops)))) ∙ also in cc)
 
-    by_size : (q : List ℕ) (u : Token) (r : List ℕ) → q ++ r ≡ p ++ b ∷ bs → Fits q u r → ((length p < length q) ⊎ (length q ≤ length p)) → length q ≤ length p
+    by_size : (q : List ℕ) (u : TokenValue) (r : List ℕ) → q ++ r ≡ p ++ b ∷ bs → Fits q u r → ((length p < length q) ⊎ (length q ≤ length p)) → length q ≤ length p
     by_size q u r e f (inr small) = small
     by_size q u r e f (inl big) = let (z, front, rest) = shorter_front p (b ∷ bs) q r (sym e) (omega arith) in by_rest q u r z f front rest
 
-name_only : (p : List ℕ) (t : Token) (r : List ℕ) (k : TokenKind) → Fits p t r → kind_of t ≡ k → Ends p r k → (n : List ℕ) → Fits p (token.name n) r → t ≡ token.name n
+name_only : (p : List ℕ) (t : TokenValue) (r : List ℕ) (k : TokenKind) → Fits p t r → token_kind t ≡ k → Ends p r k → (n : List ℕ) → Fits p (token.name n) r → t ≡ token.name n
 name_only p t r k fits is ends n f = name_by_kind t p n (is ∙ one_end p r k kind.Name ends (name_ends p n r f)) fits.0 f.0.1
 
 no_name_before : {G : Type 0} (p : List ℕ) (b : ℕ) (bs n : List ℕ) → nat_eq b 40 ≡ false → Fits p (token.name n) (b ∷ bs) → G
 no_name_before p b bs n h (_, (more, e)) = clash (λ (c : ℕ). nat_eq c 40) 40 b (first_of e) refl h
 
 -- a token that never goes on
-whole_next : (p : List ℕ) (t : Token) (k : TokenKind) (w : List ℕ) → Spells p t → ((r : List ℕ) → Follows t r) → ((n : List ℕ) → is_name p ≡ true → ⊥) → run (Some Fresh) p ≡ Some (Whole k) → IsNext p t w
+whole_next : (p : List ℕ) (t : TokenValue) (k : TokenKind) (w : List ℕ) → Spells p t → ((r : List ℕ) → Follows t r) → ((n : List ℕ) → is_name p ≡ true → ⊥) → partial_after (Some Fresh) p ≡ Some (Whole k) → IsNext p t w
 whole_next p t k [] spells follows unnamed runs = last_token p t (spells, follows [])
 whole_next p t k (b ∷ bs) spells follows unnamed runs = stopped p t (Whole k) b bs (spells, follows (b ∷ bs)) runs refl (λ n f. absurd (unnamed n f.0.0))
 
-cut_more : (p : List ℕ) (t : Token) (r : List ℕ) (ts : List Token) → IsNext p t r → CutAs r ts → CutAs (p ++ r) (t ∷ ts)
+cut_more : (p : List ℕ) (t : TokenValue) (r : List ℕ) (ts : List TokenValue) → IsNext p t r → CutAs r ts → CutAs (p ++ r) (t ∷ ts)
 cut_more p t r ts n c = cut_one p t r ts n (subst (λ (l : List ℕ). CutAs l ts) (sym (cut_as_tight r ts c)) c)
 
 -- what ends a formula
@@ -211,7 +213,7 @@ abbrev close_bytes : List Bracket → List ℕ
 close_bytes [] = []
 close_bytes (d ∷ ds) = 41 ∷ close_bytes ds
 
-abbrev close_tokens : List Bracket → List Token
+abbrev close_tokens : List Bracket → List TokenValue
 close_tokens [] = []
 close_tokens (d ∷ ds) = token.closing ∷ close_tokens ds
 
@@ -252,7 +254,7 @@ ending_bytes (has ds) = close_bytes ds
 ending_bytes (named ds) = 40 ∷ 41 ∷ close_bytes ds
 ending_bytes (begins ds) = 41 ∷ close_bytes ds
 
-abbrev ending_tokens : Place → List Token
+abbrev ending_tokens : Place → List TokenValue
 ending_tokens head = token.sign Eq ∷ token.numeral 1 ∷ []
 ending_tokens (wants ds) = token.numeral 1 ∷ close_tokens ds
 ending_tokens (has ds) = close_tokens ds
@@ -287,10 +289,10 @@ sign_place (wants ds) Div p m = nothing m
 sign_place (begins ds) Div p m = nothing m
 sign_place head Add p m = nothing m
 sign_place (wants ds) Add p m = (ds, same m)
-sign_place (begins ds) Add p m = (call ∷ ds, same m)
+sign_place (begins ds) Add p m = (Call ∷ ds, same m)
 sign_place head Sub p m = nothing m
 sign_place (wants ds) Sub p m = (ds, same m)
-sign_place (begins ds) Sub p m = (call ∷ ds, same m)
+sign_place (begins ds) Sub p m = (Call ∷ ds, same m)
 sign_place head Join p m = nothing m
 sign_place (wants ds) Join p m = nothing m
 sign_place (begins ds) Join p m = nothing m
@@ -320,24 +322,24 @@ name_place head n p m = nothing m
 name_place (wants ds) n p m = (ds, same m)
 name_place (has ds) n p m = nothing m
 name_place (named ds) n p m = nothing m
-name_place (begins ds) n p m = (call ∷ ds, same m)
+name_place (begins ds) n p m = (Call ∷ ds, same m)
 
 -- a token that leads to a place is the next one before what ends the formula there
-leaf_next : (piece : List ℕ) (t : Token) (ds : List Bracket) → Spells piece t → ((r : List ℕ) → Follows t r) → ((s : Partial) → run (Some Fresh) piece ≡ Some s → step s 41 ≡ None) → IsNext piece t (close_bytes ds)
+leaf_next : (piece : List ℕ) (t : TokenValue) (ds : List Bracket) → Spells piece t → ((r : List ℕ) → Follows t r) → ((s : Partial) → partial_after (Some Fresh) piece ≡ Some s → partial_step s 41 ≡ None) → IsNext piece t (close_bytes ds)
 leaf_next piece t [] spells follows stops = last_token piece t (spells, follows [])
 leaf_next piece t (d ∷ ds) spells follows stops =
     let (s, runs) = fits_reached piece t [] (spells, follows []) in
     stopped piece t s 41 (close_bytes ds) (spells, follows (41 ∷ close_bytes ds)) runs (stops s runs) (λ n f. no_name_before piece 41 (close_bytes ds) n refl f)
 
-plain_stops : (piece : List ℕ) (t : Token) → is_plain t ≡ true → is_leaf_kind (kind_of t) ≡ true → Fits piece t (41 ∷ []) → (s : Partial) → run (Some Fresh) piece ≡ Some s → step s 41 ≡ None
+plain_stops : (piece : List ℕ) (t : TokenValue) → is_plain t ≡ true → is_leaf_kind (token_kind t) ≡ true → Fits piece t (41 ∷ []) → (s : Partial) → partial_after (Some Fresh) piece ≡ Some s → partial_step s 41 ≡ None
 plain_stops piece t plain leaf fits s runs =
     let (s', also, ends) = plain_ends piece t (41 ∷ []) plain fits in
-    ap (λ (s : Partial). step s 41) (same (sym runs ∙ also)) ∙ leaf_stops s' (Some 41) (kind_of t) 41 ends leaf (other 41 refl)
+    ap (λ (s : Partial). partial_step s 41) (same (sym runs ∙ also)) ∙ leaf_stops s' (Some 41) (token_kind t) 41 ends leaf (other 41 refl)
 
-sign_next : (piece : List ℕ) (op : BinOp) (ds : List Bracket) → Spells piece (token.sign op) → (s : Partial) → run (Some Fresh) piece ≡ Some s → kind_at s (Some 49) ≡ Some kind.Sign → IsNext piece (token.sign op) (49 ∷ close_bytes ds)
+sign_next : (piece : List ℕ) (op : BinOp) (ds : List Bracket) → Spells piece (token.sign op) → (s : Partial) → partial_after (Some Fresh) piece ≡ Some s → kind_at s (Some 49) ≡ Some kind.Sign → IsNext piece (token.sign op) (49 ∷ close_bytes ds)
 sign_next piece op ds spells s runs ends = stopped piece (token.sign op) s 49 (close_bytes ds) (spells, tt) runs (stops s ends) (λ n f. no_name_before piece 49 (close_bytes ds) n refl f)
   where
-    stops : (s : Partial) → kind_at s (Some 49) ≡ Some kind.Sign → step s 49 ≡ None
+    stops : (s : Partial) → kind_at s (Some 49) ≡ Some kind.Sign → partial_step s 49 ≡ None
     stops Fresh e = nothing e
     stops (Numeral v) e = absurd (cc)
     stops Quoted e = nothing e
@@ -363,7 +365,7 @@ sign_next piece op ds spells s runs ends = stopped piece (token.sign op) s 49 (c
     stops Greater e = refl
     stops (Whole k) e = refl
 
-next_ending : (q : Place) (t : Token) (p : Place) (piece : List ℕ) → advance q t ≡ Some p → Spells piece t → IsNext piece t (ending_bytes p)
+next_ending : (q : Place) (t : TokenValue) (p : Place) (piece : List ℕ) → advance q t ≡ Some p → Spells piece t → IsNext piece t (ending_bytes p)
 next_ending q (token.numeral n) p piece m h = let (ds, e) = leaf_place q (token.numeral n) p refl m in subst (λ (p : Place). IsNext piece (token.numeral n) (ending_bytes p)) e (leaf_next piece (token.numeral n) ds h (λ r. tt) (plain_stops piece (token.numeral n) refl refl (h, tt)))
 next_ending q (token.text n) p piece m h = let (ds, e) = leaf_place q (token.text n) p refl m in subst (λ (p : Place). IsNext piece (token.text n) (ending_bytes p)) e (leaf_next piece (token.text n) ds h (λ r. tt) (plain_stops piece (token.text n) refl refl (h, tt)))
 next_ending q (token.fault n) p piece m h = let (ds, e) = leaf_place q (token.fault n) p refl m in subst (λ (p : Place). IsNext piece (token.fault n) (ending_bytes p)) e (leaf_next piece (token.fault n) ds h (λ r. tt) (plain_stops piece (token.fault n) refl refl (h, tt)))
@@ -371,12 +373,12 @@ next_ending q (token.cell c) p piece m h =
     let (ds, e) = leaf_place q (token.cell c) p refl m in
     let (j, k, runs) = run_cell piece c h in
     subst (λ (p : Place). IsNext piece (token.cell c) (ending_bytes p)) e
-    (leaf_next piece (token.cell c) ds h (λ r. tt) (λ s also. ap (λ (s : Partial). step s 41) (same (sym also ∙ runs)) ∙ word_stops j (Cell (Digits k)) 41 (other 41 refl)))
+    (leaf_next piece (token.cell c) ds h (λ r. tt) (λ s also. ap (λ (s : Partial). partial_step s 41) (same (sym also ∙ runs)) ∙ word_stops j (Cell (Digits k)) 41 (other 41 refl)))
 next_ending q (token.range v) p piece m (first, last, a, b, x, f, l, y) =
     let (ds, e) = leaf_place q (token.range v) p refl m in
     let (j, k, runs) = run_range piece first last a b x f l in
     subst (λ (p : Place). IsNext piece (token.range v) (ending_bytes p)) e
-    (leaf_next piece (token.range v) ds (first, last, a, b, x, f, l, y) (λ r. tt) (λ s also. ap (λ (s : Partial). step s 41) (same (sym also ∙ runs)) ∙ word_stops j (Range (Digits k)) 41 (other 41 refl)))
+    (leaf_next piece (token.range v) ds (first, last, a, b, x, f, l, y) (λ r. tt) (λ s also. ap (λ (s : Partial). partial_step s 41) (same (sym also ∙ runs)) ∙ word_stops j (Range (Digits k)) 41 (other 41 refl)))
 next_ending q (token.name n) p piece m h =
     let (ds, e) = name_place q n p m in
     let (j, a, some, runs) = run_name piece h.0 in
@@ -422,25 +424,25 @@ admitted_more p (b ∷ x) y some h = h
 record Before (p : Place) (s : Partial) (bs : List ℕ) : Type 0 where
   done : List ℕ
   part : List ℕ
-  tokens : List Token
+  tokens : List TokenValue
   split : bs ≡ done ++ part
   place : advance_all (Some head) tokens ≡ Some p
-  state : run (Some Fresh) part ≡ Some s
+  state : partial_after (Some Fresh) part ≡ Some s
   first : Admitted p part
-  cut : (v : List ℕ) (us : List Token) → CutAs (skipped p (part ++ v)) us → CutAs (done ++ (part ++ v)) (tokens ++ us)
+  cut : (v : List ℕ) (us : List TokenValue) → CutAs (skipped p (part ++ v)) us → CutAs (done ++ (part ++ v)) (tokens ++ us)
 
 before_none : Before head Fresh []
 before_none = record { done = []; part = []; tokens = []; split = refl; place = refl; state = refl; first = tt; cut = (λ v us c. c) }
 
 -- the part has one byte more
-part_more : (p : Place) (s next : Partial) (b : ℕ) (bs : List ℕ) (h : Before p s bs) → run (Some s) (b ∷ []) ≡ Some next → Admitted p (h.part ++ b ∷ []) → Before p next (bs ++ b ∷ [])
+part_more : (p : Place) (s next : Partial) (b : ℕ) (bs : List ℕ) (h : Before p s bs) → partial_after (Some s) (b ∷ []) ≡ Some next → Admitted p (h.part ++ b ∷ []) → Before p next (bs ++ b ∷ [])
 part_more p s next b bs h goes first = record {
   done = h.done;
   part = h.part ++ b ∷ [];
   tokens = h.tokens;
   split = (λ i. h.split i ++ b ∷ []) ∙ append_assoc h.done h.part (b ∷ []);
   place = h.place;
-  state = run-append (Some Fresh) h.part (b ∷ []) ∙ (ap (λ (o : Option Partial). run o (b ∷ [])) h.state ∙ goes);
+  state = run-append (Some Fresh) h.part (b ∷ []) ∙ (ap (λ (o : Option Partial). partial_after o (b ∷ [])) h.state ∙ goes);
   first = first;
   cut = (λ v us c.
       let one = append_assoc h.part (b ∷ []) v in
@@ -448,18 +450,18 @@ part_more p s next b bs h goes first = record {
 }
 
 -- a byte that begins a token in a place
-entered_parts : (p q : Place) (b : ℕ) (s : Partial) → entered p b ≡ Some (q, s) → (p ≡ q) × (admits p b ≡ true) × (begun b ≡ Some s)
-entered_parts p q b s m = on_test (admits p b) _ _ (q, s) m (λ k m. by_begun (begun b) refl k m) (λ _ m. nothing m)
+entered_parts : (p q : Place) (b : ℕ) (s : Partial) → read_first p b ≡ Some (q, s) → (p ≡ q) × (admits p b ≡ true) × (fresh_step b ≡ Some s)
+entered_parts p q b s m = on_test (admits p b) _ _ (q, s) m (λ k m. by_begun (fresh_step b) refl k m) (λ _ m. nothing m)
   where
-    by_begun : (o : Option Partial) → begun b ≡ o → admits p b ≡ true → with_token p o ≡ Some (q, s) → (p ≡ q) × (admits p b ≡ true) × (begun b ≡ Some s)
+    by_begun : (o : Option Partial) → fresh_step b ≡ o → admits p b ≡ true → with_token p o ≡ Some (q, s) → (p ≡ q) × (admits p b ≡ true) × (fresh_step b ≡ Some s)
     by_begun None e k m = nothing m
     by_begun (Some t) e k m = (ap (λ (r : Place × Partial). r.0) (same m), k, e ∙ ap (λ (r : Place × Partial). Some r.1) (same m))
 
 -- a byte between tokens: a space, or a token's first
 abbrev IsBetween : Place → ℕ → Place → Partial → Type 0
-IsBetween p b q s = ((is_inside p ≡ true) × (b ≡ 32) × (p ≡ q) × (Fresh ≡ s)) ⊎ ((p ≡ q) × (admits p b ≡ true) × (begun b ≡ Some s))
+IsBetween p b q s = ((is_inside p ≡ true) × (b ≡ 32) × (p ≡ q) × (Fresh ≡ s)) ⊎ ((p ≡ q) × (admits p b ≡ true) × (fresh_step b ≡ Some s))
 
-between_parts : (p q : Place) (b : ℕ) (s : Partial) → between p b ≡ Some (q, s) → IsBetween p b q s
+between_parts : (p q : Place) (b : ℕ) (s : Partial) → read_between p b ≡ Some (q, s) → IsBetween p b q s
 between_parts head q b s m = inr (entered_parts head q b s m)
 between_parts (wants ds) q b s m = on_test (nat_eq b 32) _ _ (q, s) m (λ k m. inl (refl, same_number b 32 k, ap (λ (r : Place × Partial). r.0) (same m), ap (λ (r : Place × Partial). r.1) (same m))) (λ _ m. inr (entered_parts (wants ds) q b s m))
 between_parts (has ds) q b s m = on_test (nat_eq b 32) _ _ (q, s) m (λ k m. inl (refl, same_number b 32 k, ap (λ (r : Place × Partial). r.0) (same m), ap (λ (r : Place × Partial). r.1) (same m))) (λ _ m. inr (entered_parts (has ds) q b s m))
@@ -470,7 +472,7 @@ between_parts (begins ds) q b s m = on_test (nat_eq b 32) _ _ (q, s) m (λ k m. 
 between_goes : (p q : Place) (b : ℕ) (s : Partial) (bs : List ℕ) → Before p Fresh bs → IsBetween p b q s → Before q s (bs ++ b ∷ [])
 between_goes p q b s bs h (inr (e, admit, begin)) =
     subst (λ (q : Place). Before q s (bs ++ b ∷ [])) e
-    (part_more p Fresh s b bs h (ap (λ (o : Option Partial). run o []) begin) (subst (λ (x : List ℕ). Admitted p (x ++ b ∷ [])) (sym (fresh_holds h.part Fresh h.state)) admit))
+    (part_more p Fresh s b bs h (ap (λ (o : Option Partial). partial_after o []) begin) (subst (λ (x : List ℕ). Admitted p (x ++ b ∷ [])) (sym (fresh_holds h.part Fresh h.state)) admit))
 between_goes p q b s bs h (inl (within, space, e, f)) =
     let none : h.part ≡ [] = fresh_holds h.part Fresh h.state in
     let here : Before p Fresh (bs ++ b ∷ []) = record {
@@ -489,18 +491,18 @@ between_goes p q b s bs h (inl (within, space, e, f)) =
     subst (λ (q : Place). Before q s (bs ++ b ∷ [])) e (subst (λ (s : Partial). Before p s (bs ++ b ∷ [])) f here)
 
 -- the token at hand ends before the byte
-ends_goes : (p q r : Place) (s last : Partial) (b : ℕ) (bs : List ℕ) (h : Before p s bs) (t : Token) → ((w : List ℕ) → IsNext h.part t (b ∷ w)) → advance p t ≡ Some q →
+ends_goes : (p q r : Place) (s last : Partial) (b : ℕ) (bs : List ℕ) (h : Before p s bs) (t : TokenValue) → ((w : List ℕ) → IsNext h.part t (b ∷ w)) → advance p t ≡ Some q →
     IsBetween q b r last → Before r last (bs ++ b ∷ [])
 ends_goes p q r s last b bs h t next m between' = by_byte between'
   where
     placed : advance_all (Some head) (h.tokens ++ t ∷ []) ≡ Some q
     placed = advance_all-append (Some head) h.tokens (t ∷ []) ∙ (ap (λ (o : Option Place). advance_all o (t ∷ [])) h.place ∙ ap (λ (o : Option Place). advance_all o []) m)
 
-    cut_on : (v : List ℕ) (us : List Token) → CutAs (past_spaces (b ∷ v)) us → CutAs (h.done ++ (h.part ++ b ∷ v)) ((h.tokens ++ t ∷ []) ++ us)
+    cut_on : (v : List ℕ) (us : List TokenValue) → CutAs (past_spaces (b ∷ v)) us → CutAs (h.done ++ (h.part ++ b ∷ v)) ((h.tokens ++ t ∷ []) ++ us)
     cut_on v us c =
         let one = cut_one h.part t (b ∷ v) us (next v) c in
         let tight = skipped_tight p (h.part ++ b ∷ v) (cut_as_tight (h.part ++ b ∷ v) (t ∷ us) one) in
-        subst (λ (ts : List Token). CutAs (h.done ++ (h.part ++ b ∷ v)) ts) (sym (append_assoc h.tokens (t ∷ []) us))
+        subst (λ (ts : List TokenValue). CutAs (h.done ++ (h.part ++ b ∷ v)) ts) (sym (append_assoc h.tokens (t ∷ []) us))
         (h.cut (b ∷ v) (t ∷ us) (subst (λ (l : List ℕ). CutAs l (t ∷ us)) (sym tight) one))
 
     by_byte : IsBetween q b r last → Before r last (bs ++ b ∷ [])
@@ -512,7 +514,7 @@ ends_goes p q r s last b bs h t next m between' = by_byte between'
           tokens = h.tokens ++ t ∷ [];
           split = (λ i. h.split i ++ b ∷ []);
           place = placed;
-          state = ap (λ (o : Option Partial). run o []) begin;
+          state = ap (λ (o : Option Partial). partial_after o []) begin;
           first = admit;
           cut = (λ v us c.
               let tight : past_spaces (b ∷ v) ≡ b ∷ v = ap (λ (k : Bool). cond k (past_spaces v) (b ∷ v)) space in
@@ -553,7 +555,7 @@ fresh_is Greater h = absurd (cc)
 fresh_is (Whole k) h = absurd (cc)
 
 -- the token that the part is where the byte comes next
-part_ends : (p q r : Place) (s last : Partial) (b : ℕ) (bs : List ℕ) (h : Before p s bs) (k : TokenKind) → h.part ≢ [] → step s b ≡ None → kind_at s (Some b) ≡ Some k → after_kind p k ≡ Some q →
+part_ends : (p q r : Place) (s last : Partial) (b : ℕ) (bs : List ℕ) (h : Before p s bs) (k : TokenKind) → h.part ≢ [] → partial_step s b ≡ None → kind_at s (Some b) ≡ Some k → after_kind p k ≡ Some q →
     IsBetween q b r last → Before r last (bs ++ b ∷ [])
 part_ends p q r s last b bs h k some stops ends after between' = by_part h.part refl h.first
   where
@@ -571,24 +573,24 @@ part_ends p q r s last b bs h k some stops ends after between' = by_part h.part 
 byte_goes : (p q : Place) (s last : Partial) (b : ℕ) (bs : List ℕ) → Before p s bs → read_byte p s b ≡ Some (q, last) → Before q last (bs ++ b ∷ [])
 byte_goes p q s last b bs h m = on_test (is_fresh s) _ _ (q, last) m
     (λ k m. between_goes p q b last bs (subst (λ (s : Partial). Before p s bs) (fresh_is s k) h) (between_parts p q b last m))
-    (λ k m. by_step (some k) (step s b) refl m)
+    (λ k m. by_step (some k) (partial_step s b) refl m)
   where
     some : is_fresh s ≡ false → h.part ≢ []
-    some k e = absurd (let wrong : true ≡ false = ap is_fresh (same (ap (run (Some Fresh)) (sym e) ∙ h.state)) ∙ k in cc)
+    some k e = absurd (let wrong : true ≡ false = ap is_fresh (same (ap (partial_after (Some Fresh)) (sym e) ∙ h.state)) ∙ k in cc)
 
-    by_place : h.part ≢ [] → step s b ≡ None → (k : TokenKind) → kind_at s (Some b) ≡ Some k → (o : Option Place) → after_kind p k ≡ o → between_at o b ≡ Some (q, last) → Before q last (bs ++ b ∷ [])
+    by_place : h.part ≢ [] → partial_step s b ≡ None → (k : TokenKind) → kind_at s (Some b) ≡ Some k → (o : Option Place) → after_kind p k ≡ o → read_between_at o b ≡ Some (q, last) → Before q last (bs ++ b ∷ [])
     by_place some stops k ends None after m = nothing m
     by_place some stops k ends (Some r) after m = part_ends p r q s last b bs h k some stops ends after (between_parts r q b last m)
 
-    by_kind : h.part ≢ [] → step s b ≡ None → (o : Option TokenKind) → kind_at s (Some b) ≡ o → between_at (place_after p o) b ≡ Some (q, last) → Before q last (bs ++ b ∷ [])
+    by_kind : h.part ≢ [] → partial_step s b ≡ None → (o : Option TokenKind) → kind_at s (Some b) ≡ o → read_between_at (place_after p o) b ≡ Some (q, last) → Before q last (bs ++ b ∷ [])
     by_kind some stops None ends m = nothing m
     by_kind some stops (Some k) ends m = by_place some stops k ends (after_kind p k) refl m
 
-    by_step : h.part ≢ [] → (o : Option Partial) → step s b ≡ o → inside p s b o ≡ Some (q, last) → Before q last (bs ++ b ∷ [])
+    by_step : h.part ≢ [] → (o : Option Partial) → partial_step s b ≡ o → inside p s b o ≡ Some (q, last) → Before q last (bs ++ b ∷ [])
     by_step some None stops m = by_kind some stops (kind_at s (Some b)) refl m
     by_step some (Some next) goes m =
         subst (λ (r : Place × Partial). Before r.0 r.1 (bs ++ b ∷ [])) (same m)
-        (part_more p s next b bs h (ap (λ (o : Option Partial). run o []) goes) (admitted_more p h.part (b ∷ []) some h.first))
+        (part_more p s next b bs h (ap (λ (o : Option Partial). partial_after o []) goes) (admitted_more p h.part (b ∷ []) some h.first))
 
 text_goes : (p q : Place) (s last : Partial) (bs more : List ℕ) → Before p s bs → read_text (Some (p, s)) more ≡ Some (q, last) → Before q last (bs ++ more)
 text_goes p q s last bs [] h m = subst (λ (r : Place × Partial). Before r.0 r.1 (bs ++ [])) (same m) (subst (λ (l : List ℕ). Before p s l) (sym (append-nil bs)) h)
@@ -600,14 +602,14 @@ text_goes p q s last bs (b ∷ more) h m = by_byte (read_byte p s b) refl m (λ 
     by_byte (Some (r, t)) k m again = subst (λ (l : List ℕ). Before q last l) (append_assoc bs (b ∷ []) more) (again r t (byte_goes p r s t b bs h k) m)
 
 -- a text that is cut into a formula's tokens
-cut_formula : (bs : List ℕ) (ts us : List Token) (p : Place) → CutAs bs (ts ++ us) → advance_all (Some head) ts ≡ Some p → advance_all (Some p) us ≡ Some (has []) → IsFormulaText bs
+cut_formula : (bs : List ℕ) (ts us : List TokenValue) (p : Place) → CutAs bs (ts ++ us) → advance_all (Some head) ts ≡ Some p → advance_all (Some p) us ≡ Some (has []) → IsFormulaText bs
 cut_formula bs ts us p cuts placed ended' =
     let (ls, l, e) = cuts 0 in
     let whole = advance_all-append (Some head) ts us ∙ (ap (λ (o : Option Place). advance_all o us) placed ∙ ended') in
     read_tokens bs (ls, l, ap (advance_all (Some head)) e ∙ whole)
 
 -- a text that goes on to a formula
-finish : (bs v : List ℕ) (ts us : List Token) (p : Place) → CutAs (bs ++ v) (ts ++ us) → advance_all (Some head) ts ≡ Some p → advance_all (Some p) us ≡ Some (has []) → IsFront bs
+finish : (bs v : List ℕ) (ts us : List TokenValue) (p : Place) → CutAs (bs ++ v) (ts ++ us) → advance_all (Some head) ts ≡ Some p → advance_all (Some p) us ≡ Some (has []) → IsFront bs
 finish bs v ts us p cuts placed ended' = let (t, n, stands) = cut_formula (bs ++ v) ts us p cuts placed ended' in (v, t, n, stands)
 
 before_front : (p : Place) (s : Partial) (bs : List ℕ) → Before p s bs → IsFront bs
@@ -639,7 +641,7 @@ before_formula : (p : Place) (s : Partial) (bs : List ℕ) → Before p s bs →
 before_formula p s bs h e = on_test (is_fresh s) _ _ (has []) e between_tokens (λ k e. by_kind (some k) (kind_at s None) refl e)
   where
     -- where these tokens are what is left
-    ends_with : (us : List Token) → CutAs (h.part ++ []) us → advance_all (Some p) us ≡ Some (has []) → IsFormulaText bs
+    ends_with : (us : List TokenValue) → CutAs (h.part ++ []) us → advance_all (Some p) us ≡ Some (has []) → IsFormulaText bs
     ends_with us c read =
         let here : CutAs (skipped p (h.part ++ [])) us = subst (λ (l : List ℕ). CutAs l us) (sym (skipped_tight p (h.part ++ []) (cut_as_tight (h.part ++ []) us c))) c in
         let whole : h.done ++ (h.part ++ []) ≡ bs = (λ i. h.done ++ append-nil h.part i) ∙ sym h.split in
@@ -651,7 +653,7 @@ before_formula p s bs h e = on_test (is_fresh s) _ _ (has []) e between_tokens (
         ends_with [] (subst (λ (l : List ℕ). CutAs (l ++ []) []) (sym none) cut_none) e
 
     some : is_fresh s ≡ false → h.part ≢ []
-    some k e = absurd (let wrong : true ≡ false = ap is_fresh (same (ap (run (Some Fresh)) (sym e) ∙ h.state)) ∙ k in cc)
+    some k e = absurd (let wrong : true ≡ false = ap is_fresh (same (ap (partial_after (Some Fresh)) (sym e) ∙ h.state)) ∙ k in cc)
 
     by_part : h.part ≢ [] → (k : TokenKind) → kind_at s None ≡ Some k → after_kind p k ≡ Some (has []) → (x : List ℕ) → h.part ≡ x → Admitted p x → IsFormulaText bs
     by_part some k ends after [] e first = absurd (some e)
@@ -674,9 +676,9 @@ alive_front bs some = by_end (read_text (Some (head, Fresh)) bs) refl
     by_end (Some (p, s)) m = before_front p s bs (text_goes head p Fresh s [] bs before_none m)
 
 -- where it ends with an operand outside all brackets, the text is a formula's
-pub ended_formula : (bs : List ℕ) → ended (read_text (Some (head, Fresh)) bs) ≡ Some (has []) → IsFormulaText bs
+pub ended_formula : (bs : List ℕ) → place_ended (read_text (Some (head, Fresh)) bs) ≡ Some (has []) → IsFormulaText bs
 ended_formula bs e = by_end (read_text (Some (head, Fresh)) bs) refl e
   where
-    by_end : (o : Option (Place × Partial)) → read_text (Some (head, Fresh)) bs ≡ o → ended o ≡ Some (has []) → IsFormulaText bs
+    by_end : (o : Option (Place × Partial)) → read_text (Some (head, Fresh)) bs ≡ o → place_ended o ≡ Some (has []) → IsFormulaText bs
     by_end None m e = nothing e
     by_end (Some (p, s)) m e = before_formula p s bs (text_goes head p Fresh s [] bs before_none m) e

@@ -5,14 +5,14 @@ use Rattle.formula_tree.specs.declared.functions.Fun.{Fun}
 use Rattle.formula_tree.specs.declared.functions.Fun.TheVariants as fun
 use Rattle.formula_tree.specs.Names.{name_of, known_functions}
 use Rattle.formula_tree.specs.WellFormed.{IsFun}
-use Rattle.formula_tree.specs.Tokens.{Token, is_name, upper_case, IsNext}
+use Rattle.formula_tree.specs.Tokens.{TokenValue, is_name, upper_case, IsNext}
 use Rattle.formula_tree.specs.Tokens as token
 use Rattle.formula_tree.specs.Lexing.{Lexeme, Lexes}
 use Rattle.formula_tree.specs.Lexing as cut
 use Rattle.formula_tree.specs.declared.operators.BinOp.TheVariants.{Eq}
-use Rattle.formula_tree.specs.Grammar.{Derives}
+use Rattle.formula_tree.specs.Grammar.{Derives, IsFormulaText}
 use Rattle.formula_tree.proofs.FunctionNames.{has_name, known_fun, unknown_fun, known_found, none_found}
-use Rattle.formula_read.specs.Places.{IsProper, AreProper, IsFormula, tokens_of, IsFormulaText, IsReadToEnd}
+use Rattle.formula_read.specs.Places.{IsProper, AreProper, AreFormulaTokens, tokens_of, IsReadToEnd}
 use Rattle.formula_read.proofs.Syntax.{formula_read, read_is_formula}
 
 pub name_is_function : (bs : List ℕ) → is_name bs ≡ true → (f : Fun) × IsFun f × (name_of f ≡ upper_case bs)
@@ -27,7 +27,7 @@ pub lexed_proper : {at : ℕ} {bs : List ℕ} {ls : List Lexeme} → Lexes at bs
 lexed_proper cut.end = tt
 lexed_proper (cut.next {piece = piece} {behind = behind} {t = t} n more) = (proper piece t behind n, lexed_proper more)
   where
-    proper : (piece : List ℕ) (t : Token) (behind : List ℕ) → IsNext piece t behind → IsProper t
+    proper : (piece : List ℕ) (t : TokenValue) (behind : List ℕ) → IsNext piece t behind → IsProper t
     proper p (token.name n) r next = let (f, is, e) = name_is_function p next.fits.0.0 in (f, is, e ∙ sym next.fits.0.1)
     proper p (token.numeral _) r next = tt
     proper p (token.text _) r next = tt
@@ -47,12 +47,12 @@ tokens_read bs (t, n, (first, ls, l, e, d)) =
 pub read_tokens : (bs : List ℕ) → IsReadToEnd bs → IsFormulaText bs
 read_tokens bs (ls, l, r) = by_tokens ls l (read_is_formula (tokens_of ls) (lexed_proper l) r)
   where
-    by_tokens : (ls : List Lexeme) → Lexes 0 bs ls → IsFormula (tokens_of ls) → IsFormulaText bs
+    by_tokens : (ls : List Lexeme) → Lexes 0 bs ls → AreFormulaTokens (tokens_of ls) → IsFormulaText bs
     by_tokens [] l (us, e, _) = absurd (cc)
     by_tokens (first ∷ ls) l (us, e, (t, n, d)) =
         let sign' : first.token ≡ token.sign Eq = cc in
         let rest : us ≡ tokens_of ls = cc in
-        (t, n, (first, ls, l, sign', subst (λ (us : List Token). Derives 1 us t n) rest d))
+        (t, n, (first, ls, l, sign', subst (λ (us : List TokenValue). Derives 1 us t n) rest d))
 
 pub text_is_read : (bs : List ℕ) → IsFormulaText bs ↔ IsReadToEnd bs
 text_is_read bs = (tokens_read bs, read_tokens bs)

@@ -5,18 +5,18 @@ use Rattle.std.proofs.lemmas.Bool.{lt-ltb}
 use Rattle.std.proofs.lemmas.List.{reverse-append, reverse-reverse}
 use Rattle.formula_tree.specs.Precedence.{precedence_of_operator}
 use Rattle.formula_tree.specs.declared.operators.BinOp.TheVariants.{Pow, Mul, Div, Add, Sub, Join, Eq, Ne, Lt, Le, Gt, Ge}
-use Rattle.formula_tree.specs.Tokens.{Token, numeral, text, fault, cell, range, name, sign, opening, closing, semicolon}
-use Rattle.formula_read.specs.declared.stop.Stop.{Stop}
-use Rattle.formula_read.specs.declared.stop.Stop.TheVariants.{Outside, Deep, Memory}
+use Rattle.formula_tree.specs.Tokens.{TokenValue, numeral, text, fault, cell, range, name, sign, opening, closing, semicolon}
+use Rattle.formula_read.specs.declared.tree_err.TreeErr.{TreeErr}
+use Rattle.formula_read.specs.declared.tree_err.TreeErr.TheVariants.{Outside, Deep, Memory}
 use Rattle.formula_read.specs.declared.stack.Frame.{Frame}
 use Rattle.formula_read.specs.declared.stack.Frame.TheVariants.{Sign, Left, Group, Call}
 use Rattle.formula_read.specs.declared.stack.Side.{Side}
 use Rattle.formula_read.specs.declared.stack.Side.TheVariants.{Head, Wants, Named, Has}
 use Rattle.formula_read.specs.Nested.{Nested, Makes}
-use Rattle.formula_read.specs.Stack.{State, wanted, joined, settled, closed, parted, ended_call, begun, opened, ended, stepped, walked, alone, finished, finished_at}
-use Rattle.formula_read.specs.Steps.{frame_nesting, frames_nesting, side_nesting, state_nesting, Settles, Gives, Answers}
+use Rattle.formula_read.specs.Stack.{State, wanted, completed, reduced, closed, parted, ended_call, begun, call_opened, ended, stepped, walked, alone, finished, finished_at}
+use Rattle.formula_read.specs.Steps.{frame_nesting, frames_nesting, side_nesting, state_nesting, Reduces, StepsTo, Answers}
 
-joined_deeper : (f : Frame) (x : Nested) → max x.nesting (frame_nesting f) ≤ (joined f x).nesting
+joined_deeper : (f : Frame) (x : Nested) → max x.nesting (frame_nesting f) ≤ (completed f x).nesting
 joined_deeper (Sign op) x = omega arith
 joined_deeper (Left y op) x = omega arith
 joined_deeper Group x = omega arith
@@ -25,21 +25,21 @@ joined_deeper (Call fun args) x = omega arith
 abbrev pair_nesting : Nested × List Frame → ℕ
 pair_nesting s = max s.0.nesting (frames_nesting s.1)
 
-settled_deeper : (p : ℕ) (x : Nested) (fs : List Frame) → pair_nesting (x, fs) ≤ pair_nesting (settled p x fs)
+settled_deeper : (p : ℕ) (x : Nested) (fs : List Frame) → pair_nesting (x, fs) ≤ pair_nesting (reduced p x fs)
 settled_deeper p x [] = omega arith
-settled_deeper p x (f ∷ fs) = by_test (nat_lt p (wanted f)) (settled_deeper p (joined f x) fs)
+settled_deeper p x (f ∷ fs) = by_test (nat_lt p (wanted f)) (settled_deeper p (completed f x) fs)
   where
-    by_test : (t : Bool) → pair_nesting (joined f x, fs) ≤ pair_nesting (settled p (joined f x) fs) →
-        pair_nesting (x, f ∷ fs) ≤ pair_nesting (cond t (settled p (joined f x) fs) (x, f ∷ fs))
+    by_test : (t : Bool) → pair_nesting (completed f x, fs) ≤ pair_nesting (reduced p (completed f x) fs) →
+        pair_nesting (x, f ∷ fs) ≤ pair_nesting (cond t (reduced p (completed f x) fs) (x, f ∷ fs))
     by_test true more = let here = joined_deeper f x in omega arith
     by_test false more = omega arith
 
-operand_deeper : (p : ℕ) (x : Nested) (fs : List Frame) → x.nesting ≤ (settled p x fs).0.nesting
+operand_deeper : (p : ℕ) (x : Nested) (fs : List Frame) → x.nesting ≤ (reduced p x fs).0.nesting
 operand_deeper p x [] = omega arith
-operand_deeper p x (f ∷ fs) = by_test (nat_lt p (wanted f)) (operand_deeper p (joined f x) fs)
+operand_deeper p x (f ∷ fs) = by_test (nat_lt p (wanted f)) (operand_deeper p (completed f x) fs)
   where
-    by_test : (t : Bool) → (joined f x).nesting ≤ (settled p (joined f x) fs).0.nesting →
-        x.nesting ≤ (cond t (settled p (joined f x) fs) (x, f ∷ fs)).0.nesting
+    by_test : (t : Bool) → (completed f x).nesting ≤ (reduced p (completed f x) fs).0.nesting →
+        x.nesting ≤ (cond t (reduced p (completed f x) fs) (x, f ∷ fs)).0.nesting
     by_test true more = let here = joined_deeper f x in omega arith
     by_test false more = omega arith
 
@@ -70,7 +70,7 @@ deepens_more : (m n : ℕ) (o : Option State) → m ≤ n → Deepens n o → De
 deepens_more m n None h d = tt
 deepens_more m n (Some s) h d = omega arith
 
-begun_deeper : (fs : List Frame) (t : Token) → Deepens (frames_nesting fs) (begun fs t)
+begun_deeper : (fs : List Frame) (t : TokenValue) → Deepens (frames_nesting fs) (begun fs t)
 begun_deeper fs (numeral n) = omega arith
 begun_deeper fs (text t) = omega arith
 begun_deeper fs (fault e) = omega arith
@@ -93,7 +93,7 @@ begun_deeper fs opening = omega arith
 begun_deeper fs closing = ended_call_deeper fs
 begun_deeper fs semicolon = tt
 
-opened_deeper : (fs : List Frame) (t : Token) → Deepens (frames_nesting fs) (opened fs t)
+opened_deeper : (fs : List Frame) (t : TokenValue) → Deepens (frames_nesting fs) (call_opened fs t)
 opened_deeper fs opening = omega arith
 opened_deeper fs (numeral _) = tt
 opened_deeper fs (text _) = tt
@@ -105,10 +105,10 @@ opened_deeper fs (sign _) = tt
 opened_deeper fs closing = tt
 opened_deeper fs semicolon = tt
 
-ended_deeper : (x : Nested) (fs : List Frame) (t : Token) → Deepens (pair_nesting (x, fs)) (ended x fs t)
+ended_deeper : (x : Nested) (fs : List Frame) (t : TokenValue) → Deepens (pair_nesting (x, fs)) (ended x fs t)
 ended_deeper x fs (sign op) = let more = settled_deeper (precedence_of_operator op) x fs in omega arith
-ended_deeper x fs closing = deepens_more _ _ _ (settled_deeper 1 x fs) (closed_deeper (settled 1 x fs))
-ended_deeper x fs semicolon = deepens_more _ _ _ (settled_deeper 1 x fs) (parted_deeper (settled 1 x fs))
+ended_deeper x fs closing = deepens_more _ _ _ (settled_deeper 1 x fs) (closed_deeper (reduced 1 x fs))
+ended_deeper x fs semicolon = deepens_more _ _ _ (settled_deeper 1 x fs) (parted_deeper (reduced 1 x fs))
 ended_deeper x fs (numeral _) = tt
 ended_deeper x fs (text _) = tt
 ended_deeper x fs (fault _) = tt
@@ -117,13 +117,13 @@ ended_deeper x fs (range _) = tt
 ended_deeper x fs (name _) = tt
 ended_deeper x fs opening = tt
 
-stepped_deeper : (p : Side) (fs : List Frame) (t : Token) → Deepens (max (side_nesting p) (frames_nesting fs)) (stepped p fs t)
+stepped_deeper : (p : Side) (fs : List Frame) (t : TokenValue) → Deepens (max (side_nesting p) (frames_nesting fs)) (stepped p fs t)
 stepped_deeper Head fs t = omega arith
 stepped_deeper Wants fs t = deepens_more _ (frames_nesting fs) (begun fs t) (omega arith) (begun_deeper fs t)
-stepped_deeper Named fs t = deepens_more _ (frames_nesting fs) (opened fs t) (omega arith) (opened_deeper fs t)
+stepped_deeper Named fs t = deepens_more _ (frames_nesting fs) (call_opened fs t) (omega arith) (opened_deeper fs t)
 stepped_deeper (Has x) fs t = ended_deeper x fs t
 
-walked_deeper : (n : ℕ) (o : Option State) (ts : List Token) → Deepens n o → Deepens n (walked o ts)
+walked_deeper : (n : ℕ) (o : Option State) (ts : List TokenValue) → Deepens n o → Deepens n (walked o ts)
 walked_deeper n None ts d = tt
 walked_deeper n (Some s) [] d = d
 walked_deeper n (Some s) (t ∷ ts) d =
@@ -145,15 +145,15 @@ finished_deeper n (Some s) d = by_side s.side d
     by_side Head d = tt
     by_side Wants d = tt
     by_side Named d = tt
-    by_side (Has x) d = let more = settled_deeper 1 x s.frames in alone_deeper n (settled 1 x s.frames) (omega arith)
+    by_side (Has x) d = let more = settled_deeper 1 x s.frames in alone_deeper n (reduced 1 x s.frames) (omega arith)
 
 -- a refused step refuses the text
-pub refused_step : (e : Stop) (fs : List Frame) (o : Option State) (ts : List Token) → Gives (Err e) fs o → Answers (Err e) (finished_at (walked o ts))
+pub refused_step : (e : TreeErr) (fs : List Frame) (o : Option State) (ts : List TokenValue) → StepsTo (Err e) fs o → Answers (Err e) (finished_at (walked o ts))
 refused_step Memory fs o ts h = tt
 refused_step Outside fs o ts h = ap (λ (o : Option State). finished_at (walked o ts)) h
 refused_step Deep fs o ts h = by_answer (finished_at (walked o ts)) (finished_deeper 65 (walked o ts) (walked_deeper 65 o ts (deep o h)))
   where
-    deep : (o : Option State) → Gives (Err Deep) fs o → Deepens 65 o
+    deep : (o : Option State) → StepsTo (Err Deep) fs o → Deepens 65 o
     deep None h = tt
     deep (Some s) h = omega arith
 
@@ -162,18 +162,18 @@ refused_step Deep fs o ts h = by_answer (finished_at (walked o ts)) (finished_de
     by_answer (Some x) h = omega arith
 
 -- The loop that joins an operand with what waits for it.
-module _ (p : ℕ) (x : Nested) (f : Frame) (old new : List Frame) (goal : Nested × List Frame) (cut : old ≡ new ++ f ∷ []) (tight : p < wanted f) (whole : settled p x (reverse old) ≡ goal) where
-  settles_on : settled p (joined f x) (reverse new) ≡ goal
+module _ (p : ℕ) (x : Nested) (f : Frame) (old new : List Frame) (goal : Nested × List Frame) (cut : old ≡ new ++ f ∷ []) (tight : p < wanted f) (whole : reduced p x (reverse old) ≡ goal) where
+  settles_on : reduced p (completed f x) (reverse new) ≡ goal
   settles_on =
-      sym (ap (λ (t : Bool). cond t (settled p (joined f x) (reverse new)) (x, f ∷ reverse new)) (lt-ltb p (wanted f) tight))
-      ∙ (ap (settled p x) (sym (reverse-append new (f ∷ []))) ∙ (ap (λ (fs : List Frame). settled p x (reverse fs)) (sym cut) ∙ whole))
+      sym (ap (λ (t : Bool). cond t (reduced p (completed f x) (reverse new)) (x, f ∷ reverse new)) (lt-ltb p (wanted f) tight))
+      ∙ (ap (reduced p x) (sym (reverse-append new (f ∷ []))) ∙ (ap (λ (fs : List Frame). reduced p x (reverse fs)) (sym cut) ∙ whole))
 
-  pub refused_join : (e : Stop) → Makes (Err e) (joined f x) → Settles (Err e) new goal
+  pub refused_join : (e : TreeErr) → Makes (Err e) (completed f x) → Reduces (Err e) new goal
   refused_join Memory h = tt
   refused_join Outside h = absurd h
   refused_join Deep h =
-      let more = operand_deeper p (joined f x) (reverse new) in
-      let same_nesting : (settled p (joined f x) (reverse new)).0.nesting ≡ goal.0.nesting = λ i. (settles_on i).0.nesting in
+      let more = operand_deeper p (completed f x) (reverse new) in
+      let same_nesting : (reduced p (completed f x) (reverse new)).0.nesting ≡ goal.0.nesting = λ i. (settles_on i).0.nesting in
       omega arith
 
 -- an operand behind which something still waits

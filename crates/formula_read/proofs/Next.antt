@@ -1,20 +1,20 @@
 -- the longest token that the reader finds is the next one
 use Rattle.std.proofs.Common.{◌≡◌, ℕ, zero, suc, ◌<◌, ◌≤◌, List, [], ◌∷◌, ◌++◌, length, take, drop, Option, Some, None, refl, ap, sym, ◌∙◌, subst, arith}
 use Rattle.std.proofs.lemmas.List.{take-append-drop, length-take}
-use Rattle.formula_tree.specs.Tokens.{Token, Spells, Follows, Fits, IsNext, upper_case}
+use Rattle.formula_tree.specs.Tokens.{TokenValue, Spells, Follows, Fits, IsNext, upper_case}
 use Rattle.formula_tree.specs.Tokens as token
 use Rattle.formula_read.specs.declared.kinds.TokenKind.{TokenKind}
 use Rattle.formula_read.specs.declared.kinds.TokenKind.TheVariants as kind
 use Rattle.formula_read.specs.declared.partial.Partial.{Partial}
 use Rattle.formula_read.specs.declared.partial.Partial.TheVariants.{Fresh}
-use Rattle.formula_read.specs.Partial.{step, kind_at}
-use Rattle.formula_read.specs.Longest.{run, first_byte, longest, here_or_later, fronts}
-use Rattle.formula_read.specs.Read.{kind_of}
+use Rattle.formula_read.specs.Partial.{partial_step, kind_at}
+use Rattle.formula_read.specs.Longest.{partial_after, first_byte, longest, here_or_later, fronts}
+use Rattle.formula_read.specs.Read.{token_kind}
 use Rattle.formula_read.proofs.Choices.{nothing, same}
 use Rattle.formula_read.proofs.Forms.{Ends, fresh_holds, sound, complete, name_ends}
 
 abbrev EndsFrom : Option Partial → List ℕ → List ℕ → TokenKind → Type 0
-EndsFrom o p r k = (s : Partial) × (run o p ≡ Some s) × (kind_at s (first_byte r) ≡ Some k)
+EndsFrom o p r k = (s : Partial) × (partial_after o p ≡ Some s) × (kind_at s (first_byte r) ≡ Some k)
 
 abbrev EndsAfter : Option Partial → List ℕ → ℕ → TokenKind → Type 0
 EndsAfter o bs n k = (n ≤ length bs) × EndsFrom o (take n bs) (drop n bs) k
@@ -27,10 +27,10 @@ found_here s bs (Some j) n k e h =
 longest_ends : (o : Option Partial) (bs : List ℕ) (n : ℕ) (k : TokenKind) → longest o bs ≡ Some (n, k) → EndsAfter o bs n k
 longest_ends None bs n k h = nothing h
 longest_ends (Some s) [] n k h = found_here s [] (kind_at s None) n k refl h
-longest_ends (Some s) (b ∷ bs) n k h = by_later (longest (step s b) bs) refl h (λ m j. longest_ends (step s b) bs m j)
+longest_ends (Some s) (b ∷ bs) n k h = by_later (longest (partial_step s b) bs) refl h (λ m j. longest_ends (partial_step s b) bs m j)
   where
-    by_later : (l : Option (ℕ × TokenKind)) → longest (step s b) bs ≡ l → here_or_later (kind_at s (Some b)) l ≡ Some (n, k) →
-        ((m : ℕ) (j : TokenKind) → longest (step s b) bs ≡ Some (m, j) → EndsAfter (step s b) bs m j) → EndsAfter (Some s) (b ∷ bs) n k
+    by_later : (l : Option (ℕ × TokenKind)) → longest (partial_step s b) bs ≡ l → here_or_later (kind_at s (Some b)) l ≡ Some (n, k) →
+        ((m : ℕ) (j : TokenKind) → longest (partial_step s b) bs ≡ Some (m, j) → EndsAfter (partial_step s b) bs m j) → EndsAfter (Some s) (b ∷ bs) n k
     by_later None e h rest = found_here s (b ∷ bs) (kind_at s (Some b)) n k refl h
     by_later (Some (m, j)) e h rest =
         let (within, ends) = rest m j e in
@@ -47,32 +47,32 @@ or_later here k (Some (m, j)) e = (suc m, j, refl, omega arith)
 longest_is : (o : Option Partial) (p r : List ℕ) (k : TokenKind) → EndsFrom o p r k → IsFound o (p ++ r) (length p)
 longest_is None p r k (s, runs, ends) = nothing runs
 longest_is (Some t) [] [] k (s, runs, ends) = or_later (kind_at t None) k None (ap (λ (t : Partial). kind_at t None) (same runs) ∙ ends)
-longest_is (Some t) [] (b ∷ bs) k (s, runs, ends) = or_later (kind_at t (Some b)) k (longest (step t b) bs) (ap (λ (t : Partial). kind_at t (Some b)) (same runs) ∙ ends)
+longest_is (Some t) [] (b ∷ bs) k (s, runs, ends) = or_later (kind_at t (Some b)) k (longest (partial_step t b) bs) (ap (λ (t : Partial). kind_at t (Some b)) (same runs) ∙ ends)
 longest_is (Some t) (b ∷ p) r k ends =
-    let (n, j, e, h) = longest_is (step t b) p r k ends in
+    let (n, j, e, h) = longest_is (partial_step t b) p r k ends in
     (suc n, j, ap (here_or_later (kind_at t (Some b))) e, omega arith)
 
 -- How far some token goes.
-pub front_reached : (o : Option Partial) (p r : List ℕ) (s : Partial) → run o p ≡ Some s → length p < fronts o (p ++ r)
+pub front_reached : (o : Option Partial) (p r : List ℕ) (s : Partial) → partial_after o p ≡ Some s → length p < fronts o (p ++ r)
 front_reached None p r s h = nothing h
 front_reached (Some t) [] [] s h = omega arith
 front_reached (Some t) [] (b ∷ bs) s h = omega arith
-front_reached (Some t) (b ∷ p) r s h = let more = front_reached (step t b) p r s h in omega arith
+front_reached (Some t) (b ∷ p) r s h = let more = front_reached (partial_step t b) p r s h in omega arith
 
-pub reached_front : (o : Option Partial) (bs : List ℕ) (n : ℕ) → n < fronts o bs → (n ≤ length bs) × ((s : Partial) × (run o (take n bs) ≡ Some s))
+pub reached_front : (o : Option Partial) (bs : List ℕ) (n : ℕ) → n < fronts o bs → (n ≤ length bs) × ((s : Partial) × (partial_after o (take n bs) ≡ Some s))
 reached_front None bs n h = absurd (omega arith)
 reached_front (Some t) [] zero h = ((omega arith), (t, refl))
 reached_front (Some t) [] (suc n) h = absurd (omega arith)
 reached_front (Some t) (b ∷ bs) zero h = ((omega arith), (t, refl))
-reached_front (Some t) (b ∷ bs) (suc n) h = let (within, runs) = reached_front (step t b) bs n (omega arith) in ((omega arith), runs)
+reached_front (Some t) (b ∷ bs) (suc n) h = let (within, runs) = reached_front (partial_step t b) bs n (omega arith) in ((omega arith), runs)
 
-pub fits_reached : (p : List ℕ) (t : Token) (r : List ℕ) → Fits p t r → (s : Partial) × (run (Some Fresh) p ≡ Some s)
+pub fits_reached : (p : List ℕ) (t : TokenValue) (r : List ℕ) → Fits p t r → (s : Partial) × (partial_after (Some Fresh) p ≡ Some s)
 fits_reached p t r h = let (k, (s, runs, _)) = complete p t r h in (s, runs)
 
-pub no_empty_token : (t : Token) (r : List ℕ) → Fits [] t r → ⊥
+pub no_empty_token : (t : TokenValue) (r : List ℕ) → Fits [] t r → ⊥
 no_empty_token t r h = let (k, (s, runs, ends)) = complete [] t r h in absurd (let clash : None ≡ Some k = ap (λ (s : Partial). kind_at s (first_byte r)) (same runs) ∙ ends in cc)
 
-pub name_by_kind : (t : Token) (p n : List ℕ) → kind_of t ≡ kind.Name → Spells p t → n ≡ upper_case p → t ≡ token.name n
+pub name_by_kind : (t : TokenValue) (p n : List ℕ) → token_kind t ≡ kind.Name → Spells p t → n ≡ upper_case p → t ≡ token.name n
 name_by_kind (token.numeral _) p n k h e = absurd (cc)
 name_by_kind (token.text _) p n k h e = absurd (cc)
 name_by_kind (token.fault _) p n k h e = absurd (cc)
@@ -88,7 +88,7 @@ pub one_end : (p r : List ℕ) (j k : TokenKind) → Ends p r j → Ends p r k �
 one_end p r j k (s, runs, ends) (t, also, end) = same (sym ends ∙ (ap (λ (s : Partial). kind_at s (first_byte r)) (same (sym runs ∙ also)) ∙ end))
 
 -- the next token where there is one
-pub next_found : (bs : List ℕ) (n : ℕ) (k : TokenKind) → longest (Some Fresh) bs ≡ Some (n, k) → (t : Token) × (kind_of t ≡ k) × (n ≤ length bs) × IsNext (take n bs) t (drop n bs)
+pub next_found : (bs : List ℕ) (n : ℕ) (k : TokenKind) → longest (Some Fresh) bs ≡ Some (n, k) → (t : TokenValue) × (token_kind t ≡ k) × (n ≤ length bs) × IsNext (take n bs) t (drop n bs)
 next_found bs n k h =
     let (within, (s, runs, ends)) = longest_ends (Some Fresh) bs n k h in
     let (t, fits, is) = sound s (take n bs) (drop n bs) k (fresh_holds (take n bs) s runs) ends in
@@ -109,7 +109,7 @@ next_found bs n k h =
     )
 
 -- and no token where there is none
-pub none_found : (bs p : List ℕ) (u : Token) (r : List ℕ) → longest (Some Fresh) bs ≡ None → p ++ r ≡ bs → Fits p u r → ⊥
+pub none_found : (bs p : List ℕ) (u : TokenValue) (r : List ℕ) → longest (Some Fresh) bs ≡ None → p ++ r ≡ bs → Fits p u r → ⊥
 none_found bs p u r h e f =
     let (j, end) = complete p u r f in
     let (m, i, also, most) = longest_is (Some Fresh) p r j end in

@@ -4,7 +4,7 @@ use Rattle.std.specs.Prelude.{◌⊎◌}
 use Rattle.std.specs.Char.{is_ascii_digit}
 use Rattle.std.proofs.lemmas.Bool.{and_parts, cases_lt}
 use Rattle.std.proofs.lemmas.Bool.Decides.{nat_tests}
-use Rattle.formula_tree.specs.Tokens.{Token, Fits, IsNext, is_name_byte, error_name}
+use Rattle.formula_tree.specs.Tokens.{TokenValue, Fits, IsNext, is_name_byte, error_name}
 use Rattle.formula_tree.specs.Tokens as token
 use Rattle.formula_read.specs.declared.kinds.TokenKind.{TokenKind}
 use Rattle.formula_read.specs.declared.kinds.TokenKind.TheVariants as kind
@@ -13,9 +13,9 @@ use Rattle.formula_read.specs.declared.partial.Partial.TheVariants.{Fresh, Numer
 use Rattle.formula_read.specs.declared.partial.Address.{Address}
 use Rattle.formula_read.specs.declared.partial.Address.TheVariants.{Neither, Cell, Range}
 use Rattle.formula_read.specs.declared.partial.Corner.TheVariants.{Start, Dollar, Letters, Fixed, Digits}
-use Rattle.formula_read.specs.Partial.{step, kind_at, is_open, address_kind}
-use Rattle.formula_read.specs.Longest.{run, first_byte}
-use Rattle.formula_read.specs.Read.{kind_of}
+use Rattle.formula_read.specs.Partial.{partial_step, kind_at, is_open, address_kind}
+use Rattle.formula_read.specs.Longest.{partial_after, first_byte}
+use Rattle.formula_read.specs.Read.{token_kind}
 use Rattle.formula_read.specs.Behind.{may_join, goes_on}
 use Rattle.formula_read.proofs.Choices.{on_test, nothing, same, same_number}
 use Rattle.formula_read.proofs.Forms.{Ends, complete, plain_ends, name_ends, run-append}
@@ -39,7 +39,7 @@ no_digit : (b : ℕ) → is_name_byte b ≡ false → is_ascii_digit b ≡ false
 no_digit b h = grind (arith, nat_tests)
 
 -- a word ends before a bracket, and an address before a byte that it can't go on with
-open_ends : (n : ℕ) (a : Address) → step (Word n a) 40 ≡ None
+open_ends : (n : ℕ) (a : Address) → partial_step (Word n a) 40 ≡ None
 open_ends n Neither = refl
 open_ends n (Cell Start) = refl
 open_ends n (Cell Dollar) = refl
@@ -52,20 +52,20 @@ open_ends n (Range (Letters m)) = refl
 open_ends n (Range Fixed) = refl
 open_ends n (Range (Digits m)) = refl
 
-cell_ends : (n m b : ℕ) → may_join kind.Cell b ≡ false → step (Word n (Cell (Digits m))) b ≡ None
+cell_ends : (n m b : ℕ) → may_join kind.Cell b ≡ false → partial_step (Word n (Cell (Digits m))) b ≡ None
 cell_ends n m b h =
     let (byte, rest) = neither (is_name_byte b) (nat_eq b 58 || nat_eq b 40) h in
     let (colon, _) = neither (nat_eq b 58) (nat_eq b 40) rest in
     let digit = no_digit b byte in
     rw (byte, colon, digit)
 
-range_ends : (n m b : ℕ) → may_join kind.Range b ≡ false → step (Word n (Range (Digits m))) b ≡ None
+range_ends : (n m b : ℕ) → may_join kind.Range b ≡ false → partial_step (Word n (Range (Digits m))) b ≡ None
 range_ends n m b h =
     let (byte, _) = neither (is_name_byte b) (nat_eq b 58 || nat_eq b 40) h in
     let digit = no_digit b byte in
     rw (byte, digit)
 
-address_ends : (n : ℕ) (a : Address) (k : TokenKind) (b : ℕ) → address_kind a ≡ Some k → may_join k b ≡ false → step (Word n a) b ≡ None
+address_ends : (n : ℕ) (a : Address) (k : TokenKind) (b : ℕ) → address_kind a ≡ Some k → may_join k b ≡ false → partial_step (Word n a) b ≡ None
 address_ends n Neither k b e h = nothing e
 address_ends n (Cell Start) k b e h = nothing e
 address_ends n (Cell Dollar) k b e h = nothing e
@@ -79,7 +79,7 @@ address_ends n (Range Fixed) k b e h = nothing e
 address_ends n (Range (Digits m)) k b e h = range_ends n m b (subst (λ (k : TokenKind). may_join k b ≡ false) (sym (same e)) h)
 
 -- a token's end, before a byte that it can't go on with, is where the reader stops
-stops_before : (s : Partial) (k : TokenKind) (b : ℕ) → kind_at s (Some b) ≡ Some k → may_join k b ≡ false → step s b ≡ None
+stops_before : (s : Partial) (k : TokenKind) (b : ℕ) → kind_at s (Some b) ≡ Some k → may_join k b ≡ false → partial_step s b ≡ None
 stops_before Fresh k b e h = nothing e
 stops_before (Numeral v) k b e h = let other : is_ascii_digit b ≡ false = subst (λ (k : TokenKind). may_join k b ≡ false) (sym (same e)) h in rw other
 stops_before Quoted k b e h = nothing e
@@ -91,7 +91,7 @@ stops_before (Error f n) k b e h = on_test (nat_eq n (length (error_name f))) _ 
     (λ _ m. nothing m)
 stops_before (Word n a) k b e h = on_test (nat_lt 0 n && nat_eq b 40) _ _ k e
     (λ t _. let (_, open') = and_parts (nat_lt 0 n) (nat_eq b 40) t in
-    subst (λ (b : ℕ). step (Word n a) b ≡ None) (sym (same_number b 40 open')) (open_ends n a))
+    subst (λ (b : ℕ). partial_step (Word n a) b ≡ None) (sym (same_number b 40 open')) (open_ends n a))
     (λ _ m. address_ends n a k b m h)
 stops_before Less k b e h = let other : (nat_eq b 61 || nat_eq b 62) ≡ false = subst (λ (k : TokenKind). may_join k b ≡ false) (sym (same e)) h in rw other
 stops_before Greater k b e h =
@@ -102,23 +102,23 @@ stops_before (Whole j) k b e h = refl
 -- no token goes on with the bytes
 abbrev Stops : Partial → List ℕ → Type 0
 Stops s [] = Unit {0}
-Stops s (b ∷ bs) = step s b ≡ None
+Stops s (b ∷ bs) = partial_step s b ≡ None
 
 stops_here : (s : Partial) (k : TokenKind) (r : List ℕ) → kind_at s (first_byte r) ≡ Some k → goes_on k r ≡ false → Stops s r
 stops_here s k [] e h = tt
 stops_here s k (b ∷ bs) e h = stops_before s k b e h
 
 -- then no longer token fits
-not_longer : (p r : List ℕ) (s : Partial) (q : List ℕ) (u : Token) (w : List ℕ) → run (Some Fresh) p ≡ Some s → Stops s r → q ++ w ≡ p ++ r → Fits q u w → length q ≤ length p
+not_longer : (p r : List ℕ) (s : Partial) (q : List ℕ) (u : TokenValue) (w : List ℕ) → partial_after (Some Fresh) p ≡ Some s → Stops s r → q ++ w ≡ p ++ r → Fits q u w → length q ≤ length p
 not_longer p r s q u w runs stops e f = by_length (cases_lt (length p) (length q))
   where
     by_rest : (z : List ℕ) → q ≡ p ++ z → r ≡ z ++ w → z ≢ [] → length q ≤ length p
     by_rest [] front rest some = absurd (some refl)
     by_rest (b ∷ z) front rest some =
         let (k, (v, reads, _)) = complete q u w f in
-        let stop : step s b ≡ None = subst (λ (l : List ℕ). Stops s l) rest stops in
-        let dead : run (Some Fresh) q ≡ None =
-        ap (λ (l : List ℕ). run (Some Fresh) l) front ∙ (run-append (Some Fresh) p (b ∷ z) ∙ (ap (λ (o : Option Partial). run o (b ∷ z)) runs ∙ ap (λ (o : Option Partial). run o z) stop)) in
+        let stop : partial_step s b ≡ None = subst (λ (l : List ℕ). Stops s l) rest stops in
+        let dead : partial_after (Some Fresh) q ≡ None =
+        ap (λ (l : List ℕ). partial_after (Some Fresh) l) front ∙ (run-append (Some Fresh) p (b ∷ z) ∙ (ap (λ (o : Option Partial). partial_after o (b ∷ z)) runs ∙ ap (λ (o : Option Partial). partial_after o z) stop)) in
         absurd (let clash : None ≡ Some v = sym dead ∙ reads in cc)
 
     by_length : ((length p < length q) ⊎ (length q ≤ length p)) → length q ≤ length p
@@ -138,7 +138,7 @@ word_ends n a k next e h =
     ap (λ (t : Bool). cond (nat_lt 0 n && t) (Some kind.Name) (address_kind a)) h
     ∙ (ap (λ (t : Bool). cond t (Some kind.Name) (address_kind a)) (and_false (nat_lt 0 n)) ∙ e)
 
-token_ends : (p : List ℕ) (t : Token) (r : List ℕ) → Fits p t r → goes_on (kind_of t) r ≡ false → Ends p r (kind_of t)
+token_ends : (p : List ℕ) (t : TokenValue) (r : List ℕ) → Fits p t r → goes_on (token_kind t) r ≡ false → Ends p r (token_kind t)
 token_ends p (token.cell c) r h other =
     let (n, m, runs) = run_cell p c h.0 in
     (Word n (Cell (Digits m)), runs, word_ends n (Cell (Digits m)) kind.Cell (first_byte r) refl (not_open r other))
@@ -155,12 +155,12 @@ token_ends p token.opening r h other = plain_ends p token.opening r refl h
 token_ends p token.closing r h other = plain_ends p token.closing r refl h
 token_ends p token.semicolon r h other = plain_ends p token.semicolon r refl h
 
-pub parted_next : (p : List ℕ) (t : Token) (r : List ℕ) → Fits p t r → goes_on (kind_of t) r ≡ false → IsNext p t r
+pub parted_next : (p : List ℕ) (t : TokenValue) (r : List ℕ) → Fits p t r → goes_on (token_kind t) r ≡ false → IsNext p t r
 parted_next p t r h other =
     let (s, runs, ends) = token_ends p t r h other in
-    let stops = stops_here s (kind_of t) r ends other in
+    let stops = stops_here s (token_kind t) r ends other in
     record {
       fits = h;
       longest = (λ q u w e f. not_longer p r s q u w runs stops e f);
-      named = (λ n f. name_by_kind t p n (one_end p r (kind_of t) kind.Name (s, runs, ends) (name_ends p n r f)) h.0 f.0.1);
+      named = (λ n f. name_by_kind t p n (one_end p r (token_kind t) kind.Name (s, runs, ends) (name_ends p n r f)) h.0 f.0.1);
     }

@@ -2,11 +2,11 @@
 use Rattle.std.proofs.Common.{◌≡◌, ℕ, zero, suc, ◌+◌, ◌-◌, ◌<◌, ◌≤◌, Bool, true, false, cond, nat_eq, List, [], ◌∷◌, ◌++◌, length, take, drop, get_or, refl, ap, sym, ◌∙◌, subst, append_assoc, arith}
 use Rattle.std.specs.Prelude.{slice_range}
 use Rattle.std.proofs.lemmas.List.{length-append, length-map, take_at, drop_at, drop_more, drop-map, get_or-map}
-use Rattle.formula_tree.specs.Tokens.{Token, Spells, opening}
+use Rattle.formula_tree.specs.Tokens.{TokenValue, Spells, opening}
 use Rattle.formula_tree.specs.Lexing.{Lexeme, Lexes, space_count, past_spaces}
 use Rattle.formula_tree.specs.Lexing as cut
-use Rattle.formula_read.specs.declared.kinds.Token.{Token as ReadToken}
-use Rattle.formula_read.specs.Read.{shown}
+use Rattle.formula_read.specs.declared.kinds.Token.{Token}
+use Rattle.formula_read.specs.Read.{placed_token}
 use Rattle.formula_read.specs.Places.{tokens_of}
 use Rattle.formula_read.specs.Steps.{IsToken, AreTokens}
 
@@ -57,28 +57,28 @@ at_index text (l ∷ ls) zero d h k = h.0
 at_index text (l ∷ ls) (suc i) d h k = at_index text ls i d h.1 (omega arith)
 
 -- the token that the reader comes to at an index
-pub record IsReached (text : List ℕ) (ls : List Lexeme) (i : ℕ) (r : ReadToken) (l : Lexeme) : Type 0 where
+pub record IsReached (text : List ℕ) (ls : List Lexeme) (i : ℕ) (r : Token) (l : Lexeme) : Type 0 where
   pub place : IsAt text l
-  pub is : shown l ≡ r
+  pub is : placed_token l ≡ r
   pub rest : drop i (tokens_of ls) ≡ l.token ∷ drop (i + 1) (tokens_of ls)
 
-pub reached_at : (text : List ℕ) (ts : List ReadToken) (ls : List Lexeme) → AreTokens ls text ts → (i : ℕ) (d : ReadToken) → i < length ts →
+pub reached_at : (text : List ℕ) (ts : List Token) (ls : List Lexeme) → AreTokens ls text ts → (i : ℕ) (d : Token) → i < length ts →
     (l : Lexeme) × IsReached text ls i (get_or ts i d) l
 reached_at text ts ls (l, e) i d within =
     let none : Lexeme = record { from = 0; to = 0; token = opening } in
-    let size : length ts ≡ length ls = ap length e ∙ length-map ls shown in
+    let size : length ts ≡ length ls = ap length e ∙ length-map ls placed_token in
     let within' : i < length ls = omega arith in (
       get_or ls i none,
       record {
         place = at_index text ls i none (cut_at l [] refl) within';
-        is = sym (ap (λ (rs : List ReadToken). get_or rs i d) e ∙ get_or-map shown ls i none d within');
+        is = sym (ap (λ (rs : List Token). get_or rs i d) e ∙ get_or-map placed_token ls i none d within');
         rest = drop-map (λ (l : Lexeme). l.token) i ls
-            ∙ (ap tokens_of (drop_more ls i none within') ∙ ap (λ (us : List Token). (get_or ls i none).token ∷ us) (sym (drop-map (λ (l : Lexeme). l.token) (i + 1) ls)));
+            ∙ (ap tokens_of (drop_more ls i none within') ∙ ap (λ (us : List TokenValue). (get_or ls i none).token ∷ us) (sym (drop-map (λ (l : Lexeme). l.token) (i + 1) ls)));
       },
     )
 
 -- its bytes spell it
-pub reached_token : (text : List ℕ) (ls : List Lexeme) (i : ℕ) (r : ReadToken) (l : Lexeme) → IsReached text ls i r l → (bytes : List ℕ) → bytes ≡ slice_range text r.from r.to → IsToken l.token r.kind bytes
+pub reached_token : (text : List ℕ) (ls : List Lexeme) (i : ℕ) (r : Token) (l : Lexeme) → IsReached text ls i r l → (bytes : List ℕ) → bytes ≡ slice_range text r.from r.to → IsToken l.token r.kind bytes
 reached_token text ls i r l reached bytes e =
-    let whole : slice_range text l.from l.to ≡ bytes = ap (λ (r : ReadToken). slice_range text r.from r.to) reached.is ∙ sym e in
-    (ap (λ (r : ReadToken). r.kind) reached.is, subst (λ (bs : List ℕ). Spells bs l.token) whole reached.place.spells)
+    let whole : slice_range text l.from l.to ≡ bytes = ap (λ (r : Token). slice_range text r.from r.to) reached.is ∙ sym e in
+    (ap (λ (r : Token). r.kind) reached.is, subst (λ (bs : List ℕ). Spells bs l.token) whole reached.place.spells)

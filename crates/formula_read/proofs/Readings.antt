@@ -4,7 +4,8 @@ use Rattle.formula_read.specs.declared.partial.Partial.{Partial}
 use Rattle.formula_read.specs.declared.partial.Partial.TheVariants.{Fresh}
 use Rattle.formula_read.specs.Places.{Place, head, wants, has, named, begins}
 use Rattle.formula_read.specs.Reading.{place_at_end, read_byte}
-use Rattle.formula_read.specs.Readings.{Reading, formula, stops, IsReading}
+use Rattle.formula_read.specs.Readings.{Reading, formula, stops, IsReading, IsLongestFormulaFront}
+use Rattle.formula_read.proofs.Spellings.{one_formula}
 use Rattle.formula_read.proofs.Stops.{Reaches, reaches_first, reaches_more, stopped_outside, stopped_place, end_formula, end_outside, end_place}
 
 -- where the reader stands at the end
@@ -26,7 +27,7 @@ read_on text (suc left) at p s h e = by_byte (read_byte p s (get_or text at 0)) 
     by_byte None f rest = (stops at, (stopped_outside text at p s h (omega arith) f, stopped_place text at p s h (omega arith) f))
     by_byte (Some (q, t)) f rest = rest q t (reaches_more text at p s h (omega arith) q t f)
 
-every_text : (bs : List ℕ) → (r : Reading) × IsReading bs r
+pub every_text : (bs : List ℕ) → (r : Reading) × IsReading bs r
 every_text bs = read_on bs (length bs) 0 head Fresh (reaches_first bs) (omega arith)
 
 -- What a text reads as.
@@ -36,3 +37,18 @@ reading bs = (every_text bs).0
 pub reading-is : (bs : List ℕ) → IsReading bs (reading bs)
 unfolding reading every_text
 reading-is bs = (every_text bs).1
+
+-- ---- and as one thing alone
+
+-- two lengths of the longest front are one
+pub longest_one : (bs : List ℕ) (p q : ℕ) → IsLongestFormulaFront bs p → IsLongestFormulaFront bs q → p ≡ q
+longest_one bs p q h k =
+    let low = k.longest p h.within h.front in
+    let high = h.longest q k.within k.front in
+    omega (arith, low, high)
+
+pub reads_once : (bs : List ℕ) (r s : Reading) → IsReading bs r → IsReading bs s → r ≡ s
+reads_once bs (formula t n) (formula u m) h k = let (tree, nesting) = one_formula bs t u n m h k in λ i. formula (tree i) (nesting i)
+reads_once bs (formula t n) (stops p) h k = absurd (k.0 (t, n, h))
+reads_once bs (stops p) (formula t n) h k = absurd (h.0 (t, n, k))
+reads_once bs (stops p) (stops q) h k = λ i. stops (longest_one bs p q h.1 k.1 i)

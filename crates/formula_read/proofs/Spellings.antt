@@ -10,7 +10,7 @@ use Rattle.ss_base.specs.declared.types.CalcErr.{CalcErr}
 use Rattle.ss_base.specs.declared.types.CalcErr.TheVariants.{Div0, Na, NoName, BadNum, Lost, BadKind, Circ}
 use Rattle.formula_tree.specs.declared.operators.BinOp.{BinOp}
 use Rattle.formula_tree.specs.declared.operators.BinOp.TheVariants.{Pow, Mul, Div, Add, Sub, Join, Eq, Ne, Lt, Le, Gt, Ge}
-use Rattle.formula_tree.specs.Tokens.{Token, Spells, Fits, IsNext, doubled, error_name, sign_text}
+use Rattle.formula_tree.specs.Tokens.{TokenValue, Spells, Fits, IsNext, doubled, error_name, sign_text}
 use Rattle.formula_tree.specs.Tokens.{numeral, text, fault, cell, range, name, sign, opening, closing, semicolon}
 use Rattle.formula_tree.specs.Tree.{Tree}
 use Rattle.formula_tree.specs.Grammar.{Derives, Stands}
@@ -22,9 +22,9 @@ use Rattle.formula_read.specs.declared.partial.Address.{Address}
 use Rattle.formula_read.specs.declared.partial.Address.TheVariants.{Cell, Range}
 use Rattle.formula_read.specs.declared.partial.Corner.TheVariants.{Digits}
 use Rattle.formula_read.specs.Partial.{address_kind, is_open}
-use Rattle.formula_read.specs.Longest.{run, first_byte}
+use Rattle.formula_read.specs.Longest.{partial_after, first_byte}
 use Rattle.formula_read.specs.declared.kinds.TokenKind.{TokenKind}
-use Rattle.formula_read.specs.Read.{kind_of}
+use Rattle.formula_read.specs.Read.{token_kind}
 use Rattle.formula_read.specs.Places.{tokens_of}
 use Rattle.formula_read.proofs.Choices.{same}
 use Rattle.formula_read.proofs.Forms.{Ends, fresh_holds, sound, name_ends, plain_ends}
@@ -88,7 +88,7 @@ one_text p s t h e =
     let inner : doubled s ≡ doubled t = append_cancel_right (doubled s) (doubled t) (34 ∷ []) (behind_quote (sym h ∙ e)) in
     sym (undoubled-doubled s) ∙ (ap undoubled inner ∙ undoubled-doubled t)
 
-pub one_spelling : (p : List ℕ) (t u : Token) → kind_of t ≡ kind_of u → Spells p t → Spells p u → t ≡ u
+pub one_spelling : (p : List ℕ) (t u : TokenValue) → token_kind t ≡ token_kind u → Spells p t → Spells p u → t ≡ u
 one_spelling p (numeral m) (numeral n) k h e = ap numeral (sym h.1 ∙ e.1)
 one_spelling p (numeral m) u k h e = absurd (cc)
 one_spelling p (text s) (text t) k h e = ap text (one_text p s t h.0 e.0)
@@ -111,12 +111,12 @@ one_spelling p semicolon semicolon k h e = refl
 one_spelling p semicolon u k h e = absurd (cc)
 
 -- the reader ends the next token of a text with its kind
-named_kind : (p : List ℕ) (t : Token) (r : List ℕ) → IsNext p t r → Ends p r kind.Name → kind_of t ≡ kind.Name
+named_kind : (p : List ℕ) (t : TokenValue) (r : List ℕ) → IsNext p t r → Ends p r kind.Name → token_kind t ≡ kind.Name
 named_kind p t r n (s, runs, ends) =
     let (u, fits, is) = sound s p r kind.Name (fresh_holds p s runs) ends in by_name u fits is
   where
-    by_name : (u : Token) → Fits p u r → kind_of u ≡ kind.Name → kind_of t ≡ kind.Name
-    by_name (name m) fits is = ap kind_of (n.named m fits)
+    by_name : (u : TokenValue) → Fits p u r → token_kind u ≡ kind.Name → token_kind t ≡ kind.Name
+    by_name (name m) fits is = ap token_kind (n.named m fits)
     by_name (numeral _) fits is = absurd (cc)
     by_name (text _) fits is = absurd (cc)
     by_name (fault _) fits is = absurd (cc)
@@ -127,16 +127,16 @@ named_kind p t r n (s, runs, ends) =
     by_name closing fits is = absurd (cc)
     by_name semicolon fits is = absurd (cc)
 
-word_ends : (p : List ℕ) (t : Token) (r : List ℕ) (m : ℕ) (a : Address) → IsNext p t r → run (Some Fresh) p ≡ Some (Word m a) → address_kind a ≡ Some (kind_of t) → Ends p r (kind_of t)
+word_ends : (p : List ℕ) (t : TokenValue) (r : List ℕ) (m : ℕ) (a : Address) → IsNext p t r → partial_after (Some Fresh) p ≡ Some (Word m a) → address_kind a ≡ Some (token_kind t) → Ends p r (token_kind t)
 word_ends p t r m a n runs whole = by_test (nat_lt 0 m && is_open (first_byte r)) refl
   where
-    by_test : (b : Bool) → (nat_lt 0 m && is_open (first_byte r)) ≡ b → Ends p r (kind_of t)
+    by_test : (b : Bool) → (nat_lt 0 m && is_open (first_byte r)) ≡ b → Ends p r (token_kind t)
     by_test true k =
         let ends : Ends p r kind.Name = (Word m a, runs, ap (λ (b : Bool). cond b (Some kind.Name) (address_kind a)) k) in
         subst (λ (k : TokenKind). Ends p r k) (sym (named_kind p t r n ends)) ends
     by_test false k = (Word m a, runs, ap (λ (b : Bool). cond b (Some kind.Name) (address_kind a)) k ∙ whole)
 
-next_ends : (p : List ℕ) (t : Token) (r : List ℕ) → IsNext p t r → Ends p r (kind_of t)
+next_ends : (p : List ℕ) (t : TokenValue) (r : List ℕ) → IsNext p t r → Ends p r (token_kind t)
 next_ends p (cell c) r n = let (k, m, runs) = run_cell p c n.fits.0 in word_ends p (cell c) r k (Cell (Digits m)) n runs refl
 next_ends p (range s) r n = let (first, last, a, b, e, f, l, _) = n.fits.0 in
     let (k, m, runs) = run_range p first last a b e f l in word_ends p (range s) r k (Range (Digits m)) n runs refl
@@ -149,17 +149,17 @@ next_ends p opening r n = plain_ends p opening r refl n.fits
 next_ends p closing r n = plain_ends p closing r refl n.fits
 next_ends p semicolon r n = plain_ends p semicolon r refl n.fits
 
-one_token : (p : List ℕ) (t u : Token) (r : List ℕ) → IsNext p t r → IsNext p u r → t ≡ u
-one_token p t u r n m = one_spelling p t u (one_end p r (kind_of t) (kind_of u) (next_ends p t r n) (next_ends p u r m)) n.fits.0 m.fits.0
+one_token : (p : List ℕ) (t u : TokenValue) (r : List ℕ) → IsNext p t r → IsNext p u r → t ≡ u
+one_token p t u r n m = one_spelling p t u (one_end p r (token_kind t) (token_kind u) (next_ends p t r n) (next_ends p u r m)) n.fits.0 m.fits.0
 
 -- a text has one list of tokens
-some_piece : (p : List ℕ) (t : Token) (r : List ℕ) → IsNext p t r → p ++ r ≡ [] → ⊥
+some_piece : (p : List ℕ) (t : TokenValue) (r : List ℕ) → IsNext p t r → p ++ r ≡ [] → ⊥
 some_piece [] t r n e = no_empty_token t r n.fits
 some_piece (b ∷ bs) t r n e = cc
 
 -- a list of tokens, taken apart
 abbrev Parts : ℕ → List ℕ → List Lexeme → Type 0
-Parts at bs ls = ((bs ≡ []) × (ls ≡ [])) ⊎ ((piece : List ℕ) × (behind : List ℕ) × (t : Token) × (more : List Lexeme) × (bs ≡ piece ++ behind) × IsNext piece t behind
+Parts at bs ls = ((bs ≡ []) × (ls ≡ [])) ⊎ ((piece : List ℕ) × (behind : List ℕ) × (t : TokenValue) × (more : List Lexeme) × (bs ≡ piece ++ behind) × IsNext piece t behind
     × Lexes (at + length piece + space_count behind) (past_spaces behind) more × (ls ≡ record { from = at; to = at + length piece; token = t } ∷ more))
 
 parts : {at : ℕ} {bs : List ℕ} {ls : List Lexeme} → Lexes at bs ls → Parts at bs ls

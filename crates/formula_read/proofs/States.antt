@@ -11,7 +11,7 @@ use Rattle.std.proofs.lemmas.List.Folds.{list_all-append}
 use Rattle.ss_base.specs.declared.types.CalcErr.{CalcErr}
 use Rattle.formula_tree.specs.declared.operators.BinOp.{BinOp}
 use Rattle.formula_tree.specs.declared.operators.BinOp.TheVariants.{Pow, Mul, Div, Add, Sub, Join, Eq, Ne, Le, Ge}
-use Rattle.formula_tree.specs.Tokens.{Token, Spells, Follows, Fits, doubled, is_printable, is_name, error_name, sign_text, upper_case}
+use Rattle.formula_tree.specs.Tokens.{TokenValue, Spells, Follows, Fits, doubled, is_printable, is_name, error_name, sign_text, upper_case}
 use Rattle.formula_tree.specs.Tokens as token
 use Rattle.formula_read.specs.declared.kinds.TokenKind.TheVariants as kind
 use Rattle.formula_read.specs.declared.partial.Partial.{Partial}
@@ -19,8 +19,8 @@ use Rattle.formula_read.specs.declared.partial.Partial.TheVariants.{Fresh, Numer
 use Rattle.formula_read.specs.declared.partial.Address.{Address}
 use Rattle.formula_read.specs.declared.partial.Address.TheVariants.{Cell}
 use Rattle.formula_read.specs.declared.partial.Corner.TheVariants.{Letters}
-use Rattle.formula_read.specs.Partial.{step, begun, numeral_step, quoted_step, hash_step, hash_n_step, error_step, is_single_sign, word, name_step, address_step}
-use Rattle.formula_read.specs.Read.{kind_of}
+use Rattle.formula_read.specs.Partial.{partial_step, fresh_step, numeral_step, quoted_step, hash_step, hash_n_step, error_step, is_single_sign, word, name_step, address_step}
+use Rattle.formula_read.specs.Read.{token_kind}
 use Rattle.formula_read.proofs.Choices.{on_test, nothing, same, same_number, value_of_digit, value_is_small}
 use Rattle.formula_read.proofs.Corners.{one_letter}
 use Rattle.formula_read.proofs.Words.{AddressHolds, address_goes, NameHolds, name_goes, IsWord, word_is}
@@ -59,7 +59,7 @@ Holds (Error e n) p = (p ≡ take n (error_name e)) × (n ≤ length (error_name
 Holds (Word n a) p = NameHolds n p × AddressHolds a p × IsWord n a
 Holds Less p = p ≡ 60 ∷ []
 Holds Greater p = p ≡ 62 ∷ []
-Holds (Whole k) p = (t : Token) × Spells p t × (kind_of t ≡ k) × ((r : List ℕ) → Follows t r)
+Holds (Whole k) p = (t : TokenValue) × Spells p t × (token_kind t ≡ k) × ((r : List ℕ) → Follows t r)
 
 single_sign : (b : ℕ) → is_single_sign b ≡ true → (op : BinOp) × (sign_text op ≡ b ∷ [])
 single_sign b h = at_plus (or_cases _ _ h)
@@ -121,7 +121,7 @@ module _ (p : List ℕ) (b : ℕ) (next : Partial) where
       ))
       (λ _ m. nothing m))
 
-  closed_goes : Holds Closed p → step Closed b ≡ Some next → Holds next (p ++ b ∷ [])
+  closed_goes : Holds Closed p → partial_step Closed b ≡ Some next → Holds next (p ++ b ∷ [])
   closed_goes (t, e, all) m = on_test (nat_eq b 34) _ _ next m
       (λ k m. moved_to m (
         t ++ 34 ∷ [],
@@ -160,7 +160,7 @@ module _ (p : List ℕ) (b : ℕ) (next : Partial) where
   whole_sign : (op : BinOp) → p ++ b ∷ [] ≡ sign_text op → Holds (Whole kind.Sign) (p ++ b ∷ [])
   whole_sign op e = (token.sign op, e, refl, λ r. tt)
 
-  less_goes : Holds Less p → step Less b ≡ Some next → Holds next (p ++ b ∷ [])
+  less_goes : Holds Less p → partial_step Less b ≡ Some next → Holds next (p ++ b ∷ [])
   less_goes h m = on_test (nat_eq b 61 || nat_eq b 62) _ _ next m
       (λ k m. moved_to m (by_sign (or_cases _ _ k)))
       (λ _ m. nothing m)
@@ -169,10 +169,10 @@ module _ (p : List ℕ) (b : ℕ) (next : Partial) where
       by_sign (inl k) = whole_sign Le (with_byte 61 (60 ∷ []) h k)
       by_sign (inr k) = whole_sign Ne (with_byte 62 (60 ∷ []) h k)
 
-  greater_goes : Holds Greater p → step Greater b ≡ Some next → Holds next (p ++ b ∷ [])
+  greater_goes : Holds Greater p → partial_step Greater b ≡ Some next → Holds next (p ++ b ∷ [])
   greater_goes h m = on_test (nat_eq b 61) _ _ next m (λ k m. moved_to m (whole_sign Ge (with_byte 61 (62 ∷ []) h k))) (λ _ m. nothing m)
 
-  fresh_goes : Holds Fresh p → begun b ≡ Some next → Holds next (p ++ b ∷ [])
+  fresh_goes : Holds Fresh p → fresh_step b ≡ Some next → Holds next (p ++ b ∷ [])
   fresh_goes h m =
       on_test (is_ascii_digit b) _ _ next m
       (λ k m. moved_to m (subst (λ (q : List ℕ). Holds (Numeral (b - 48)) (q ++ b ∷ [])) (sym h)
@@ -192,7 +192,7 @@ module _ (p : List ℕ) (b : ℕ) (next : Partial) where
       (λ k m. let (op, e) = single_sign b k in moved_to m (whole_sign op ((λ i. h i ++ b ∷ []) ∙ sym e)))
       (λ _ m. nothing m)))))))))))
 
-  pub goes : (s : Partial) → Holds s p → step s b ≡ Some next → Holds next (p ++ b ∷ [])
+  pub goes : (s : Partial) → Holds s p → partial_step s b ≡ Some next → Holds next (p ++ b ∷ [])
   goes Fresh h m = fresh_goes h m
   goes (Numeral v) h m = numeral_goes v h m
   goes Quoted h m = quoted_goes h m

@@ -5,7 +5,7 @@ use Rattle.formula_tree.specs.Lexing.{space_count}
 use Rattle.formula_read.specs.declared.kinds.TokenKind.{TokenKind}
 use Rattle.formula_read.specs.declared.partial.Partial.{Partial}
 use Rattle.formula_read.specs.declared.partial.Partial.TheVariants.{Fresh}
-use Rattle.formula_read.specs.Partial.{step, kind_at}
+use Rattle.formula_read.specs.Partial.{partial_step, kind_at}
 use Rattle.formula_read.specs.Longest.{longest, fronts, behind, later, here_or_later}
 
 pub drop_at : (xs : List ℕ) (i : ℕ) → i < length xs → drop i xs ≡ get_or xs i 0 ∷ drop (i + 1) xs
@@ -24,18 +24,18 @@ behind-step at (Some k) None found = λ i. Some (none at i, k)
     none a = omega arith
 
 module _ (text : List ℕ) (at : ℕ) (s : Partial) (found : Option (ℕ × TokenKind)) where
-  pub found_more : at < length text → (here : Option TokenKind) (next : Option Partial) → here ≡ kind_at s (Some (get_or text at 0)) → next ≡ step s (get_or text at 0) →
+  pub found_more : at < length text → (here : Option TokenKind) (next : Option Partial) → here ≡ kind_at s (Some (get_or text at 0)) → next ≡ partial_step s (get_or text at 0) →
       longest (Some Fresh) text ≡ behind at (longest (Some s) (drop at text)) found →
       longest (Some Fresh) text ≡ behind (at + 1) (longest next (drop (at + 1) text)) (later found at here)
   found_more h here next p q e = e ∙ (ap (λ bs. behind at (longest (Some s) bs) found) (drop_at text at h)
-      ∙ (behind-step at (kind_at s (Some (get_or text at 0))) (longest (step s (get_or text at 0)) (drop (at + 1) text)) found
+      ∙ (behind-step at (kind_at s (Some (get_or text at 0))) (longest (partial_step s (get_or text at 0)) (drop (at + 1) text)) found
       ∙ sym (λ i. behind (at + 1) (longest (q i) (drop (at + 1) text)) (later found at (p i)))))
 
-  pub reach_more : at < length text → (next : Option Partial) → next ≡ step s (get_or text at 0) →
+  pub reach_more : at < length text → (next : Option Partial) → next ≡ partial_step s (get_or text at 0) →
       fronts (Some Fresh) text ≡ at + fronts (Some s) (drop at text) →
       fronts (Some Fresh) text ≡ (at + 1) + fronts next (drop (at + 1) text)
   reach_more h next q e = e ∙ (ap (λ bs. at + fronts (Some s) bs) (drop_at text at h)
-      ∙ (shift at (fronts (step s (get_or text at 0)) (drop (at + 1) text)) ∙ ap (λ o. (at + 1) + fronts o (drop (at + 1) text)) (sym q)))
+      ∙ (shift at (fronts (partial_step s (get_or text at 0)) (drop (at + 1) text)) ∙ ap (λ o. (at + 1) + fronts o (drop (at + 1) text)) (sym q)))
     where
       shift : (a b : ℕ) → a + suc b ≡ (a + 1) + b
       shift a b = omega arith

@@ -5,10 +5,10 @@ use Rattle.std.proofs.lemmas.Bool.{cases_lt}
 use Rattle.std.proofs.lemmas.List.{take_more, take_all, take-take, take-append-drop}
 use Rattle.formula_read.specs.declared.partial.Partial.{Partial}
 use Rattle.formula_read.specs.declared.partial.Partial.TheVariants.{Fresh}
-use Rattle.formula_read.specs.Places.{Place, head, has, IsFormulaText}
-use Rattle.formula_read.specs.Read.{IsLongestFormulaFront}
-use Rattle.formula_read.specs.Reading.{place_at_end, ended, read_byte, read_text}
-use Rattle.formula_tree.specs.Grammar.{IsFront}
+use Rattle.formula_read.specs.Places.{Place, head, has}
+use Rattle.formula_read.specs.Readings.{IsLongestFormulaFront}
+use Rattle.formula_read.specs.Reading.{place_at_end, place_ended, read_byte, read_text}
+use Rattle.formula_tree.specs.Grammar.{IsFront, IsFormulaText}
 use Rattle.formula_read.proofs.Bytes.{read_text-append, formula_ended, front_alive}
 use Rattle.formula_read.proofs.Fronts.{alive_front, ended_formula}
 
@@ -51,7 +51,7 @@ module _ (text : List ℕ) (at : ℕ) (p : Place) (s : Partial) (h : Reaches tex
     pub stopped_outside : IsFormulaText text → ⊥
     stopped_outside h =
         let stops = no_further text (drop (at + 1) text) (sym (take-append-drop (at + 1) text)) in
-        absurd (let clash : None ≡ Some (has []) = sym (ap ended stops) ∙ formula_ended text h in cc)
+        absurd (let clash : None ≡ Some (has []) = sym (ap place_ended stops) ∙ formula_ended text h in cc)
 
     pub stopped_place : IsLongestFormulaFront text at
     stopped_place = record {
@@ -70,10 +70,10 @@ module _ (text : List ℕ) (at : ℕ) (p : Place) (s : Partial) (h : Reaches tex
   end_reached = ap (read_text (Some (head, Fresh))) (sym (take_all at text past)) ∙ h
 
   pub end_formula : place_at_end p s ≡ Some (has []) → IsFormulaText text
-  end_formula e = ended_formula text (ap ended end_reached ∙ e)
+  end_formula e = ended_formula text (ap place_ended end_reached ∙ e)
 
   pub end_outside : (place_at_end p s ≢ Some (has [])) → IsFormulaText text → ⊥
-  end_outside other formula = other (sym (ap ended end_reached) ∙ formula_ended text formula)
+  end_outside other formula = other (sym (ap place_ended end_reached) ∙ formula_ended text formula)
 
   pub end_place : IsLongestFormulaFront text (length text)
   end_place = record {

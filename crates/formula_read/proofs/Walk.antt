@@ -5,10 +5,10 @@ use Rattle.std.proofs.lemmas.List.{append-nil, take-append-drop, length-take, le
 use Rattle.formula_tree.specs.Lexing.{Lexeme, Lexes, space_count, past_spaces}
 use Rattle.formula_tree.specs.Lexing as cut
 use Rattle.formula_read.specs.declared.kinds.TokenKind.{TokenKind}
-use Rattle.formula_read.specs.declared.kinds.Token.{Token as ReadToken}
+use Rattle.formula_read.specs.declared.kinds.Token.{Token}
 use Rattle.formula_read.specs.declared.partial.Partial.TheVariants.{Fresh}
 use Rattle.formula_read.specs.Longest.{longest, fronts}
-use Rattle.formula_read.specs.Read.{shown, IsLexed, IsLongestFront}
+use Rattle.formula_read.specs.Read.{placed_token, IsLexed, IsLongestFront}
 use Rattle.formula_read.proofs.Next.{next_found, no_empty_token}
 use Rattle.formula_read.proofs.Cuts.{Fails, stuck, later, front_length, not_cut, fails_front, no_further}
 
@@ -27,8 +27,8 @@ past_is (b ∷ bs) = by_space (nat_eq b 32) (past_is bs)
     by_space false h = refl
 
 -- The tokens so far, and those of the rest, are those of the text.
-abbrev pub CutsOn : List ℕ → ℕ → List ReadToken → Type 0
-CutsOn text at ts = (ls : List Lexeme) → Lexes at (drop at text) ls → (ms : List Lexeme) × Lexes 0 text ms × (map shown ms ≡ ts ++ map shown ls)
+abbrev pub CutsOn : List ℕ → ℕ → List Token → Type 0
+CutsOn text at ts = (ls : List Lexeme) → Lexes at (drop at text) ls → (ms : List Lexeme) × Lexes 0 text ms × (map placed_token ms ≡ ts ++ map placed_token ls)
 
 -- Where the rest fails, the text does.
 abbrev pub FailsOn : List ℕ → ℕ → ℕ → Type 0
@@ -44,7 +44,7 @@ module _ (text : List ℕ) (at n : ℕ) (k : TokenKind) (here : longest (Some Fr
   behind_token : drop (at + n + space_count (drop n (drop at text))) text ≡ past_spaces (drop n (drop at text))
   behind_token = sym (past_is (drop n (drop at text)) ∙ (ap (drop (space_count (drop n (drop at text)))) (drop-drop n at text) ∙ drop-drop (space_count (drop n (drop at text))) (at + n) text))
 
-  pub cuts_more : (ts : List ReadToken) → CutsOn text at ts →
+  pub cuts_more : (ts : List Token) → CutsOn text at ts →
       CutsOn text (at + n + space_count (drop n (drop at text))) (ts ++ record { from = at; to = at + n; kind = k } ∷ [])
   cuts_more ts cuts ls l =
       let rest = drop at text in
@@ -55,7 +55,7 @@ module _ (text : List ℕ) (at n : ℕ) (k : TokenKind) (here : longest (Some Fr
       let lexeme : Lexeme = record { from = at; to = at + length (take n rest); token = t } in
       let whole = subst (λ (bs : List ℕ). Lexes at bs (lexeme ∷ ls)) (take-append-drop n rest) (cut.next next moved) in
       let (ms, done, same) = cuts (lexeme ∷ ls) whole in
-      (ms, done, same ∙ ((λ i. ts ++ record { from = at; to = at + size i; kind = is i } ∷ map shown ls) ∙ sym (append_assoc ts (record { from = at; to = at + n; kind = k } ∷ []) (map shown ls))))
+      (ms, done, same ∙ ((λ i. ts ++ record { from = at; to = at + size i; kind = is i } ∷ map placed_token ls) ∙ sym (append_assoc ts (record { from = at; to = at + n; kind = k } ∷ []) (map placed_token ls))))
 
   pub fails_more : (far reach : ℕ) → reach + 1 ≡ fronts (Some Fresh) (drop at text) → FailsOn text at far →
       FailsOn text (at + n + space_count (drop n (drop at text))) (max far (at + reach))
@@ -91,7 +91,7 @@ failed_place text p h =
     }
 
 -- the end
-pub cuts_end : (text : List ℕ) (at : ℕ) (ts : List ReadToken) → length text ≤ at → CutsOn text at ts → (ls : List Lexeme) × Lexes 0 text ls × (ts ≡ map shown ls)
+pub cuts_end : (text : List ℕ) (at : ℕ) (ts : List Token) → length text ≤ at → CutsOn text at ts → (ls : List Lexeme) × Lexes 0 text ls × (ts ≡ map placed_token ls)
 cuts_end text at ts past cuts =
     let empty : drop at text ≡ [] = nothing_left (drop at text) (let left = length-drop at text in omega arith) in
     let (ms, l, e) = cuts [] (subst (λ (bs : List ℕ). Lexes at bs []) (sym empty) cut.end) in

@@ -15,8 +15,8 @@ use Rattle.formula_read.specs.declared.partial.Address.{Address}
 use Rattle.formula_read.specs.declared.partial.Address.TheVariants.{Neither, Cell, Range}
 use Rattle.formula_read.specs.declared.partial.Corner.{Corner}
 use Rattle.formula_read.specs.declared.partial.Corner.TheVariants.{Start, Dollar, Letters, Fixed, Digits}
-use Rattle.formula_read.specs.Partial.{corner_step, cell_step, cell_or_neither, range_or_neither, address_step, name_step, word, begun}
-use Rattle.formula_read.specs.Longest.{run}
+use Rattle.formula_read.specs.Partial.{corner_step, cell_step, cell_or_neither, range_or_neither, address_step, name_step, word, fresh_step}
+use Rattle.formula_read.specs.Longest.{partial_after}
 use Rattle.formula_read.proofs.Choices.{on_test, nothing, same, same_number, all_parts, letter_is_no_digit, digit_is_no_colon}
 use Rattle.formula_read.proofs.Corners.{CornerHolds, corner_goes, behind_two}
 use Rattle.formula_read.proofs.Addresses.{spelled_cell, cell_spelled, corner_run, corner_completes}
@@ -114,12 +114,12 @@ gone n (b ∷ bs) z = gone (name_step n b) bs (ap (λ m. name_step m b) z ∙ no
 
 -- a word is followed by its two parts
 abbrev IsFollowed : ℕ → Address → List ℕ → Type 0
-IsFollowed n a bs = word n a ≡ Some (Word n a) → run (Some (Word n a)) bs ≡ word (name_length n bs) (follow a bs)
+IsFollowed n a bs = word n a ≡ Some (Word n a) → partial_after (Some (Word n a)) bs ≡ word (name_length n bs) (follow a bs)
 
-run_from : (n : ℕ) (a : Address) (bs : List ℕ) → IsFollowed n a bs → run (word n a) bs ≡ word (name_length n bs) (follow a bs)
+run_from : (n : ℕ) (a : Address) (bs : List ℕ) → IsFollowed n a bs → partial_after (word n a) bs ≡ word (name_length n bs) (follow a bs)
 run_from n Neither bs alive = by_some (nat_lt 0 n) refl
   where
-    by_some : (t : Bool) → nat_lt 0 n ≡ t → run (cond t (Some (Word n Neither)) None) bs ≡ word (name_length n bs) (follow Neither bs)
+    by_some : (t : Bool) → nat_lt 0 n ≡ t → partial_after (cond t (Some (Word n Neither)) None) bs ≡ word (name_length n bs) (follow Neither bs)
     by_some true k = alive (ap (λ (t : Bool). cond t (Some (Word n Neither)) None) k)
     by_some false k = sym (gone n bs (grind (arith, nat_tests)))
 run_from n (Cell c) bs alive = alive refl
@@ -129,17 +129,17 @@ run_alive : (n : ℕ) (a : Address) (bs : List ℕ) → IsFollowed n a bs
 run_alive n a [] h = sym h
 run_alive n a (b ∷ bs) h = run_from (name_step n b) (address_step a b) bs (run_alive (name_step n b) (address_step a b) bs)
 
-pub run_word : (n : ℕ) (a : Address) (bs : List ℕ) → run (word n a) bs ≡ word (name_length n bs) (follow a bs)
+pub run_word : (n : ℕ) (a : Address) (bs : List ℕ) → partial_after (word n a) bs ≡ word (name_length n bs) (follow a bs)
 run_word n a bs = run_from n a bs (run_alive n a bs)
 
 -- the first byte of a word
-begin_letter : (b : ℕ) → is_ascii_alphabetic b ≡ true → begun b ≡ word 1 (Cell (Letters 1))
+begin_letter : (b : ℕ) → is_ascii_alphabetic b ≡ true → fresh_step b ≡ word 1 (Cell (Letters 1))
 begin_letter b h = rw (letter_is_no_digit b h, h)
 
-begin_address : (b : ℕ) (c : Corner) → corner_step Start b ≡ Some c → (n : ℕ) × (begun b ≡ word n (Cell c))
+begin_address : (b : ℕ) (c : Corner) → corner_step Start b ≡ Some c → (n : ℕ) × (fresh_step b ≡ word n (Cell c))
 begin_address b c m = on_test (is_ascii_alphabetic b) _ _ c m
     (λ k m. (1, begin_letter b k ∙ (λ i. word 1 (Cell (same m i)))))
-    (λ _ m. on_test (nat_eq b 36) _ _ c m (λ k m. (0, ap begun (same_number b 36 k) ∙ (λ i. word 0 (Cell (same m i))))) (λ _ m. nothing m))
+    (λ _ m. on_test (nat_eq b 36) _ _ c m (λ k m. (0, ap fresh_step (same_number b 36 k) ∙ (λ i. word 0 (Cell (same m i))))) (λ _ m. nothing m))
 
 -- bytes that go on with a cell's address, behind a colon or before any
 cell_follows : (c : Corner) (b : ℕ) (next : Corner) → corner_step c b ≡ Some next → cell_step c b ≡ Cell next
@@ -171,29 +171,29 @@ follow_range c (b ∷ bs) last h =
     ap (λ (a : Address). follow a bs) (ap range_or_neither m) ∙ follow_range next bs last rest
 
 -- a cell's bytes, and more behind them
-cell_then : (p : List ℕ) (m : ℕ) (more : List ℕ) → CornerHolds (Digits m) p → (n : ℕ) × (run (Some Fresh) (p ++ more) ≡ word n (follow (Cell (Digits m)) more))
+cell_then : (p : List ℕ) (m : ℕ) (more : List ℕ) → CornerHolds (Digits m) p → (n : ℕ) × (partial_after (Some Fresh) (p ++ more) ≡ word n (follow (Cell (Digits m)) more))
 cell_then [] m more h = absurd (let clash : Some Start ≡ Some (Digits m) = corner_completes m [] h in cc)
 cell_then (b ∷ bs) m more h =
     let (next, first, rest) = corner_next Start b bs (Digits m) (corner_completes m (b ∷ bs) h) in
     let (n, begins) = begin_address b next first in (
       name_length n (bs ++ more),
-      ap (λ (o : Option Partial). run o (bs ++ more)) begins
+      ap (λ (o : Option Partial). partial_after o (bs ++ more)) begins
           ∙ (run_word n (Cell next) (bs ++ more)
           ∙ ap (word (name_length n (bs ++ more))) (follow-append (Cell next) bs more ∙ ap (λ (a : Address). follow a more) (follow_cell next bs (Digits m) rest))),
     )
 
-pub run_cell : (p : List ℕ) (c : Spot) → cell_of p ≡ Some c → (n m : ℕ) × (run (Some Fresh) p ≡ Some (Word n (Cell (Digits m))))
+pub run_cell : (p : List ℕ) (c : Spot) → cell_of p ≡ Some c → (n m : ℕ) × (partial_after (Some Fresh) p ≡ Some (Word n (Cell (Digits m))))
 run_cell p c h =
     let (m, holds) = cell_spelled p c h in
     let (n, runs) = cell_then p m [] holds in
-    (n, m, ap (λ (l : List ℕ). run (Some Fresh) l) (sym (append-nil p)) ∙ runs)
+    (n, m, ap (λ (l : List ℕ). partial_after (Some Fresh) l) (sym (append-nil p)) ∙ runs)
 
-pub run_range : (p first last : List ℕ) (a b : Spot) → p ≡ first ++ 58 ∷ last → cell_of first ≡ Some a → cell_of last ≡ Some b → (n m : ℕ) × (run (Some Fresh) p ≡ Some (Word n (Range (Digits m))))
+pub run_range : (p first last : List ℕ) (a b : Spot) → p ≡ first ++ 58 ∷ last → cell_of first ≡ Some a → cell_of last ≡ Some b → (n m : ℕ) × (partial_after (Some Fresh) p ≡ Some (Word n (Range (Digits m))))
 run_range p first last a b e f l =
     let (k, front) = cell_spelled first a f in
     let (m, back) = cell_spelled last b l in
     let (n, runs) = cell_then first k (58 ∷ last) front in
-    (n, m, ap (λ (l : List ℕ). run (Some Fresh) l) e ∙ (runs ∙ ap (word n) (follow_range Start last (Digits m) (corner_completes m last back))))
+    (n, m, ap (λ (l : List ℕ). partial_after (Some Fresh) l) e ∙ (runs ∙ ap (word n) (follow_range Start last (Digits m) (corner_completes m last back))))
 
 -- a name's bytes
 name_follows : (n : ℕ) (bs : List ℕ) → 0 < n → n + length bs ≤ 32 → list_all is_name_byte bs ≡ true → name_length n bs ≡ n + length bs
@@ -208,7 +208,7 @@ word_some n Neither h = rw (lt-ltb 0 n h)
 word_some n (Cell c) h = refl
 word_some n (Range c) h = refl
 
-pub run_name : (p : List ℕ) → is_name p ≡ true → (n : ℕ) × (a : Address) × (0 < n) × (run (Some Fresh) p ≡ Some (Word n a))
+pub run_name : (p : List ℕ) → is_name p ≡ true → (n : ℕ) × (a : Address) × (0 < n) × (partial_after (Some Fresh) p ≡ Some (Word n a))
 run_name [] h = absurd (cc)
 run_name (b ∷ bs) h =
     let (letter, rest) = and_parts (is_ascii_alphabetic b) (list_all is_name_byte bs && nat_le (length bs) 31) h in
@@ -219,6 +219,6 @@ run_name (b ∷ bs) h =
       1 + length bs,
       a,
       omega arith,
-      ap (λ (o : Option Partial). run o bs) (begin_letter b letter)
+      ap (λ (o : Option Partial). partial_after o bs) (begin_letter b letter)
           ∙ (run_word 1 (Cell (Letters 1)) bs ∙ (ap (λ (n : ℕ). word n a) size ∙ word_some (1 + length bs) a (omega arith))),
     )

@@ -2,13 +2,13 @@
 use Rattle.std.specs.Prelude.{ℕ, suc, ◌+◌, List, [], ◌∷◌, Option, Some, None}
 use Rattle.formula_read.specs.declared.kinds.TokenKind.{TokenKind}
 use Rattle.formula_read.specs.declared.partial.Partial.{Partial}
-use Rattle.formula_read.specs.Partial.{step, kind_at}
+use Rattle.formula_read.specs.Partial.{partial_step, kind_at}
 
 -- what a token has become with more bytes, if some token begins so
-abbrev pub run : Option Partial → List ℕ → Option Partial
-run None bs = None
-run (Some s) [] = Some s
-run (Some s) (b ∷ bs) = run (step s b) bs
+abbrev pub partial_after : Option Partial → List ℕ → Option Partial
+partial_after None bs = None
+partial_after (Some s) [] = Some s
+partial_after (Some s) (b ∷ bs) = partial_after (partial_step s b) bs
 
 abbrev pub first_byte : List ℕ → Option ℕ
 first_byte [] = None
@@ -24,13 +24,13 @@ here_or_later (Some k) None = Some (0, k)
 abbrev pub longest : Option Partial → List ℕ → Option (ℕ × TokenKind)
 longest None bs = None
 longest (Some s) [] = here_or_later (kind_at s None) None
-longest (Some s) (b ∷ bs) = here_or_later (kind_at s (Some b)) (longest (step s b) bs)
+longest (Some s) (b ∷ bs) = here_or_later (kind_at s (Some b)) (longest (partial_step s b) bs)
 
 -- how many fronts of the bytes some token begins with: 0 where there is no token at hand, else the empty front is one
 abbrev pub fronts : Option Partial → List ℕ → ℕ
 fronts None bs = 0
 fronts (Some s) [] = 1
-fronts (Some s) (b ∷ bs) = suc (fronts (step s b) bs)
+fronts (Some s) (b ∷ bs) = suc (fronts (partial_step s b) bs)
 
 -- the token that ends at a place if there is one, and else the one found before
 abbrev pub later : Option (ℕ × TokenKind) → ℕ → Option TokenKind → Option (ℕ × TokenKind)

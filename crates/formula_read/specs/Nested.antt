@@ -6,10 +6,9 @@ use Rattle.formula_tree.specs.declared.operators.PreOp.{PreOp}
 use Rattle.formula_tree.specs.declared.operators.BinOp.{BinOp}
 use Rattle.formula_tree.specs.declared.functions.Fun.{Fun}
 use Rattle.formula_tree.specs.Tree.{Tree, pre, bin, call, trees_from}
-use Rattle.formula_read.specs.declared.kinds.ParseErr.{ParseErr}
-use Rattle.formula_read.specs.declared.kinds.ParseErr.TheVariants.{At, Deep, Memory}
-use Rattle.formula_read.specs.declared.stop.Stop.{Stop}
-use Rattle.formula_read.specs.declared.stop.Stop.TheVariants as stop
+use Rattle.formula_read.specs.declared.tree_err.TreeErr.{TreeErr}
+use Rattle.formula_read.specs.declared.tree_err.TreeErr.TheVariants as tree_err
+pub use Rattle.formula_read.specs.Readings.{ReadAs}
 
 -- an operand
 pub record Nested : Type 0 where
@@ -24,8 +23,8 @@ pub record NestedList : Type 0 where
 abbrev pub leaf : Tree Spot Span → Nested
 leaf t = record { tree = t; nesting = 1 }
 
-abbrev pub signed : PreOp → Nested → Nested
-signed op x = record { tree = pre op x.tree; nesting = suc x.nesting }
+abbrev pub with_sign : PreOp → Nested → Nested
+with_sign op x = record { tree = pre op x.tree; nesting = suc x.nesting }
 
 abbrev pub between : BinOp → Nested → Nested → Nested
 between op x y = record { tree = bin op x.tree y.tree; nesting = suc (max x.nesting y.nesting) }
@@ -43,15 +42,8 @@ abbrev pub called : Fun → NestedList → Nested
 called fun args = record { tree = call fun (trees_from args.trees); nesting = suc args.nesting }
 
 -- this operand is made, unless its nesting is above 64 or memory is wanting
-abbrev pub Makes : Result Nested Stop → Nested → Type 0
+abbrev pub Makes : Result Nested TreeErr → Nested → Type 0
 Makes (Ok y) x = y ≡ x
-Makes (Err stop.Deep) x = 64 < x.nesting
-Makes (Err stop.Memory) x = Unit {0}
-Makes (Err stop.Outside) x = ⊥
-
--- the tree and the nesting are the answer, where the nesting is at most 64
-abbrev pub ReadAs : Result (Tree Spot Span) ParseErr → Tree Spot Span → ℕ → Type 0
-ReadAs (Ok f) t n = (f ≡ t) × (n ≤ 64)
-ReadAs (Err Deep) t n = 64 < n
-ReadAs (Err Memory) t n = Unit {0}
-ReadAs (Err (At p)) t n = ⊥
+Makes (Err tree_err.Deep) x = 64 < x.nesting
+Makes (Err tree_err.Memory) x = Unit {0}
+Makes (Err tree_err.Outside) x = ⊥

@@ -89,8 +89,8 @@ abbrev pub is_single_sign : ℕ → Bool
 is_single_sign b =
     nat_eq b 43 || (nat_eq b 45 || (nat_eq b 42 || (nat_eq b 47 || (nat_eq b 94 || (nat_eq b 38 || nat_eq b 61)))))
 
-abbrev pub begun : ℕ → Option Partial
-begun b =
+abbrev pub fresh_step : ℕ → Option Partial
+fresh_step b =
     if is_ascii_digit b then Some (Numeral (b - 48))
     else if is_ascii_alphabetic b then Some (Word 1 (Cell (Letters 1)))
     else if nat_eq b 34 then Some Quoted
@@ -105,18 +105,18 @@ begun b =
     else None
 
 -- what a token has become with one more byte, if some token begins so
-abbrev pub step : Partial → ℕ → Option Partial
-step Fresh b = begun b
-step (Numeral v) b = numeral_step v b
-step Quoted b = quoted_step b
-step Closed b = if nat_eq b 34 then Some Quoted else None
-step Hash b = hash_step b
-step HashN b = hash_n_step b
-step (Error e n) b = error_step e n b
-step (Word n a) b = word (name_step n b) (address_step a b)
-step Less b = if nat_eq b 61 || nat_eq b 62 then Some (Whole kind.Sign) else None
-step Greater b = if nat_eq b 61 then Some (Whole kind.Sign) else None
-step (Whole k) b = None
+abbrev pub partial_step : Partial → ℕ → Option Partial
+partial_step Fresh b = fresh_step b
+partial_step (Numeral v) b = numeral_step v b
+partial_step Quoted b = quoted_step b
+partial_step Closed b = if nat_eq b 34 then Some Quoted else None
+partial_step Hash b = hash_step b
+partial_step HashN b = hash_n_step b
+partial_step (Error e n) b = error_step e n b
+partial_step (Word n a) b = word (name_step n b) (address_step a b)
+partial_step Less b = if nat_eq b 61 || nat_eq b 62 then Some (Whole kind.Sign) else None
+partial_step Greater b = if nat_eq b 61 then Some (Whole kind.Sign) else None
+partial_step (Whole k) b = None
 
 -- a whole address
 abbrev pub address_kind : Address → Option TokenKind

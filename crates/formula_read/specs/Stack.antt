@@ -7,14 +7,14 @@ use Rattle.formula_tree.specs.declared.operators.PreOp.TheVariants.{Plus, Minus}
 use Rattle.formula_tree.specs.declared.operators.BinOp.{BinOp}
 use Rattle.formula_tree.specs.declared.operators.BinOp.TheVariants.{Add, Sub}
 use Rattle.formula_tree.specs.Precedence.{precedence_of_operator}
-use Rattle.formula_tree.specs.Tokens.{Token, numeral, text, fault, cell, range, name, sign, opening, closing, semicolon}
+use Rattle.formula_tree.specs.Tokens.{TokenValue, numeral, text, fault, cell, range, name, sign, opening, closing, semicolon}
 use Rattle.formula_tree.specs.Tree as tree
 use Rattle.formula_read.specs.declared.stack.Frame.{Frame}
 use Rattle.formula_read.specs.declared.stack.Frame.TheVariants.{Sign, Left, Group, Call}
 use Rattle.formula_read.specs.declared.stack.Side.{Side}
 use Rattle.formula_read.specs.declared.stack.Side.TheVariants.{Head, Wants, Named, Has}
 use Rattle.formula_read.specs.FunctionNames.{function_named}
-use Rattle.formula_read.specs.Nested.{Nested, leaf, signed, between, bracketed, no_arguments, with_argument, called}
+use Rattle.formula_read.specs.Nested.{Nested, leaf, with_sign, between, bracketed, no_arguments, with_argument, called}
 
 -- where the reader stands, and what waits
 pub record State : Type 0 where
@@ -40,17 +40,17 @@ wanted Group = 1
 wanted (Call fun args) = 1
 
 -- an operand with what waits for it; a bracket is closed behind it
-abbrev pub joined : Frame → Nested → Nested
-joined (Sign op) x = signed op x
-joined (Left y op) x = between op y x
-joined Group x = bracketed x
-joined (Call fun args) x = called fun (with_argument args x)
+abbrev pub completed : Frame → Nested → Nested
+completed (Sign op) x = with_sign op x
+completed (Left y op) x = between op y x
+completed Group x = bracketed x
+completed (Call fun args) x = called fun (with_argument args x)
 
 -- an operand where something that binds so tightly may follow: joined with all that binds it more tightly, and what
 -- still waits
-abbrev pub settled : ℕ → Nested → List Frame → Nested × List Frame
-settled p x [] = (x, [])
-settled p x (f ∷ fs) = if nat_lt p (wanted f) then settled p (joined f x) fs else (x, f ∷ fs)
+abbrev pub reduced : ℕ → Nested → List Frame → Nested × List Frame
+reduced p x [] = (x, [])
+reduced p x (f ∷ fs) = if nat_lt p (wanted f) then reduced p (completed f x) fs else (x, f ∷ fs)
 
 -- a binary operator behind an operand
 abbrev pub operator_behind : BinOp → Nested × List Frame → State
@@ -59,7 +59,7 @@ operator_behind op (x, fs) = waiting (Left x op ∷ fs)
 -- a closing bracket behind an operand
 abbrev pub closed : Nested × List Frame → Option State
 closed (x, []) = None
-closed (x, f ∷ fs) = Some (standing (joined f x) fs)
+closed (x, f ∷ fs) = Some (standing (completed f x) fs)
 
 -- a semicolon behind an operand
 abbrev pub parted : Nested × List Frame → Option State
@@ -72,7 +72,7 @@ ended_call (Call fun args ∷ fs) = Some (standing (called fun args) fs)
 ended_call fs = None
 
 -- the tree of a token that stands by itself
-abbrev pub leaf_of : Token → Option (tree.Tree Spot Span)
+abbrev pub leaf_of : TokenValue → Option (tree.Tree Spot Span)
 leaf_of (numeral n) = Some (tree.num (pos n))
 leaf_of (text t) = Some (tree.text t)
 leaf_of (fault e) = Some (tree.fault e)
@@ -81,7 +81,7 @@ leaf_of (range r) = Some (tree.range r)
 leaf_of t = None
 
 -- one more token where an operand is wanted
-abbrev pub begun : List Frame → Token → Option State
+abbrev pub begun : List Frame → TokenValue → Option State
 begun fs (numeral n) = Some (standing (leaf (tree.num (pos n))) fs)
 begun fs (text t) = Some (standing (leaf (tree.text t)) fs)
 begun fs (fault e) = Some (standing (leaf (tree.fault e)) fs)
@@ -95,25 +95,25 @@ begun fs closing = ended_call fs
 begun fs t = None
 
 -- one more token behind a function's name
-abbrev pub opened : List Frame → Token → Option State
-opened fs opening = Some (waiting fs)
-opened fs t = None
+abbrev pub call_opened : List Frame → TokenValue → Option State
+call_opened fs opening = Some (waiting fs)
+call_opened fs t = None
 
 -- one more token behind an operand
-abbrev pub ended : Nested → List Frame → Token → Option State
-ended x fs (sign op) = Some (operator_behind op (settled (precedence_of_operator op) x fs))
-ended x fs closing = closed (settled 1 x fs)
-ended x fs semicolon = parted (settled 1 x fs)
+abbrev pub ended : Nested → List Frame → TokenValue → Option State
+ended x fs (sign op) = Some (operator_behind op (reduced (precedence_of_operator op) x fs))
+ended x fs closing = closed (reduced 1 x fs)
+ended x fs semicolon = parted (reduced 1 x fs)
 ended x fs t = None
 
 -- one more token
-abbrev pub stepped : Side → List Frame → Token → Option State
+abbrev pub stepped : Side → List Frame → TokenValue → Option State
 stepped Head fs t = Some (waiting fs)
 stepped Wants fs t = begun fs t
-stepped Named fs t = opened fs t
+stepped Named fs t = call_opened fs t
 stepped (Has x) fs t = ended x fs t
 
-abbrev pub walked : Option State → List Token → Option State
+abbrev pub walked : Option State → List TokenValue → Option State
 walked None ts = None
 walked (Some s) [] = Some s
 walked (Some s) (t ∷ ts) = walked (stepped s.side s.frames t) ts
@@ -124,7 +124,7 @@ alone (x, []) = Some x
 alone (x, f ∷ fs) = None
 
 abbrev pub finished : Side → List Frame → Option Nested
-finished (Has x) fs = alone (settled 1 x fs)
+finished (Has x) fs = alone (reduced 1 x fs)
 finished p fs = None
 
 abbrev pub finished_at : Option State → Option Nested

@@ -1,25 +1,16 @@
 -- The reader's place, as the code keeps it.
-use Rattle.std.specs.Prelude.{Bool, true, false, List, ◌∷◌, map, reverse}
-use Rattle.formula_read.specs.declared.brackets.Bracket.{Bracket as OpenBracket}
-use Rattle.formula_read.specs.declared.brackets.Bracket.TheVariants as kept
-use Rattle.formula_read.specs.declared.place.Stage.{Stage}
-use Rattle.formula_read.specs.declared.place.Stage.TheVariants as stage
-use Rattle.formula_read.specs.Places.{Bracket, group, call, Place, head, wants, has, named, begins}
+use Rattle.std.specs.Prelude.{Bool, true, false, List, ◌∷◌}
+use Rattle.formula_read.specs.declared.brackets.Bracket.{Bracket}
+use Rattle.formula_read.specs.declared.cursor.Stage.{Stage}
+use Rattle.formula_read.specs.declared.cursor.Stage.TheVariants as stage
+use Rattle.formula_read.specs.Places.{Place, head, wants, has, named, begins}
 
-abbrev pub bracket_of : OpenBracket → Bracket
-bracket_of kept.Group = group
-bracket_of kept.Call = call
-
--- of brackets in the order of the text
-abbrev pub innermost_first : List OpenBracket → List Bracket
-innermost_first ds = map bracket_of (reverse ds)
-
-abbrev pub place_of : Stage → List Bracket → Place
-place_of stage.Head ds = head
-place_of stage.Wants ds = wants ds
-place_of stage.Has ds = has ds
-place_of stage.Named ds = named ds
-place_of stage.Begins ds = begins ds
+abbrev pub place_at_stage : Stage → List Bracket → Place
+place_at_stage stage.Head ds = head
+place_at_stage stage.Wants ds = wants ds
+place_at_stage stage.Has ds = has ds
+place_at_stage stage.Named ds = named ds
+place_at_stage stage.Begins ds = begins ds
 
 -- no bracket is open before the `=`
 abbrev pub is_sound : Stage → List Bracket → Bool

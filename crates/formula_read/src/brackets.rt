@@ -1,6 +1,5 @@
 ghost use Rattle.std.specs.Prelude.{◌≡◌, [], ◌∷◌, ◌↔◌, IsTrue, is_some, OnOk, OnErr, MatchOption};
-ghost use Rattle.formula_read.specs.Places.{parted};
-ghost use Rattle.formula_read.specs.Standing.{bracket_of};
+ghost use Rattle.formula_read.specs.Places.{behind_semicolon};
 
 use ss_base::Memory;
 use std::alloc::Global;
@@ -22,13 +21,12 @@ pub struct Brackets {
 }
 
 impl Model for Brackets {
-    ghost use Rattle.std.specs.Prelude.{List};
-    ghost use Rattle.formula_read.specs.Places as places;
-    ghost use Rattle.formula_read.specs.Standing.{innermost_first};
+    ghost use Rattle.std.specs.Prelude.{List, reverse};
+    ghost use Rattle.formula_read.specs.declared.brackets.Bracket as bracket;
 
-    ghost Value = { List places.Bracket };
+    ghost Value = { List bracket.Bracket };
 
-    ghost view = { λ b. innermost_first b.outermost_first.items };
+    ghost view = { λ b. reverse b.outermost_first.items };
 }
 
 impl Brackets {
@@ -43,7 +41,7 @@ impl Brackets {
 
     /// One more inside the others. A refused call leaves them.
     pub fn push(&mut self, bracket: Bracket) -> Result<(), Memory>
-        ensures ok { OnOk result (self.new ≡ bracket_of bracket ∷ self.old) }
+        ensures ok { OnOk result (self.new ≡ bracket ∷ self.old) }
         ensures err { OnErr result (self.new ≡ self.old) }
     {
         self.outermost_first.push(bracket)?;
@@ -53,7 +51,7 @@ impl Brackets {
     /// Takes the innermost one out, if there is one.
     pub fn pop(&mut self) -> Option<Bracket>
         ensures { MatchOption result ((self.old ≡ []) × (self.new ≡ []))
-            (λ innermost. self.old ≡ bracket_of innermost ∷ self.new) }
+            (λ innermost. self.old ≡ innermost ∷ self.new) }
     {
         self.outermost_first.pop()
     }
@@ -66,7 +64,7 @@ impl Brackets {
 
     /// Whether the innermost one is a call's.
     pub fn is_in_call(&self) -> bool
-        ensures { result ≡ is_some (parted self.now) }
+        ensures { result ≡ is_some (behind_semicolon self.now) }
     {
         matches!(self.outermost_first.last(), Some(Bracket::Call))
     }

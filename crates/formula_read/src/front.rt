@@ -1,11 +1,12 @@
 ghost use Rattle.std.specs.Prelude.{◌≡◌, ◌^◌, ◌<◌, ◌↔◌, ℕ, [], Ok, Some, None, length, IfOk, IsTrue};
 ghost use Rattle.formula_read.specs.Partial.{kind_at};
-ghost use Rattle.formula_read.specs.Places.{has, IsFormulaText};
-ghost use Rattle.formula_read.specs.Read.{IsLongestFormulaFront};
+ghost use Rattle.formula_read.specs.Places.{has};
+ghost use Rattle.formula_tree.specs.Grammar.{IsFormulaText};
+ghost use Rattle.formula_read.specs.Readings.{IsLongestFormulaFront};
 ghost use Rattle.formula_read.specs.Reading.{place_after, place_at_end, read_byte};
 
+use crate::cursor::Cursor;
 use crate::partial::Partial;
-use crate::place::Place;
 use ss_base::Memory;
 use std::alloc::Global;
 
@@ -17,7 +18,7 @@ pub(crate) fn refusal(alloc: Global, text: &[u8]) -> Result<Option<u32>, Memory>
     ensures outside { (p : ℕ) → result ≡ Ok (Some p) → ¬ (IsFormulaText text.now) }
     ensures place { (p : ℕ) → result ≡ Ok (Some p) → IsLongestFormulaFront text.now p }
 {
-    let mut place = Place::new(alloc);
+    let mut place = Cursor::new(alloc);
     let mut token = Partial::Fresh;
     for (i, b) in text.iter().enumerate() {
         match read_byte(place, token, *b)? {
@@ -36,23 +37,23 @@ pub(crate) fn refusal(alloc: Global, text: &[u8]) -> Result<Option<u32>, Memory>
 }
 
 /// One more byte: it goes on with the token at hand, or stands behind it.
-fn read_byte(place: Place, token: Partial, b: u8) -> Result<Option<(Place, Partial)>, Memory>
+fn read_byte(place: Cursor, token: Partial, b: u8) -> Result<Option<(Cursor, Partial)>, Memory>
     ensures { IfOk result (λ r. r ≡ read_byte place token b) }
 {
     if let Partial::Fresh = token {
-        return Ok(place.between(b));
+        return Ok(place.read_between(b));
     }
     if let Some(token) = token.step(b) {
         return Ok(Some((place, token)));
     }
     match place_after(place, token, Some(b))? {
-        Some(place) => Ok(place.between(b)),
+        Some(place) => Ok(place.read_between(b)),
         None => Ok(None),
     }
 }
 
 /// Whether a formula may end here.
-fn may_end(place: Place, token: Partial) -> Result<bool, Memory>
+fn may_end(place: Cursor, token: Partial) -> Result<bool, Memory>
     ensures { IfOk result (λ ends. IsTrue ends ↔ (place_at_end place token ≡ Some (has []))) }
 {
     if let Partial::Fresh = token {
@@ -65,7 +66,7 @@ fn may_end(place: Place, token: Partial) -> Result<bool, Memory>
 }
 
 /// The place behind the token at hand, where this byte comes next.
-fn place_after(place: Place, token: Partial, next: Option<u8>) -> Result<Option<Place>, Memory>
+fn place_after(place: Cursor, token: Partial, next: Option<u8>) -> Result<Option<Cursor>, Memory>
     ensures { IfOk result (λ p. p ≡ place_after place (kind_at token next)) }
 {
     match token.kind_at(next) {

@@ -2,21 +2,21 @@ ghost use Rattle.std.specs.Prelude.{◌≡◌, ◌<◌, ◌^◌, ◌++◌, ◌�
 ghost use Rattle.std.specs.Str.Parse.{IsNumeral, digits_value};
 ghost use Rattle.ss_base.specs.declared.types.CalcErr.{CalcErr};
 ghost use Rattle.formula_tree.specs.declared.operators.BinOp.{BinOp};
-ghost use Rattle.formula_tree.specs.Tokens.{Token, doubled, error_name, sign_text};
+ghost use Rattle.formula_tree.specs.Tokens.{TokenValue, doubled, error_name, sign_text};
 ghost use Rattle.formula_read.specs.Stack.{leaf_of};
 ghost use Rattle.formula_read.specs.Steps.{IsToken, IsSpelled, MakesLeaf};
 
 use crate::kinds::TokenKind;
-use crate::stop::Stop;
+use crate::tree_err::TreeErr;
 use cell_addr::{read_cell, read_range};
 use formula_tree::{BinOp, Expr};
 use ss_base::{CalcErr, Memory, Txt};
 use std::alloc::Global;
 
 /// The expression of a token that stands by itself, by its kind and its bytes.
-pub fn leaf(alloc: Global, kind: TokenKind, bytes: &[u8]) -> Result<Expr, Stop>
+pub fn leaf(alloc: Global, kind: TokenKind, bytes: &[u8]) -> Result<Expr, TreeErr>
     requires { IsSpelled kind bytes.now }
-    ensures { (t : Token) → IsToken t kind bytes.now → MakesLeaf result (leaf_of t) }
+    ensures { (t : TokenValue) → IsToken t kind bytes.now → MakesLeaf result (leaf_of t) }
 {
     match kind {
         TokenKind::Numeral => Ok(Expr::Num(number(bytes))),
@@ -27,13 +27,13 @@ pub fn leaf(alloc: Global, kind: TokenKind, bytes: &[u8]) -> Result<Expr, Stop>
         TokenKind::Error => Ok(Expr::Err(error(bytes))),
         TokenKind::Cell => match read_cell(bytes) {
             Some(cell) => Ok(Expr::Cell(cell)),
-            None => Err(Stop::Outside),
+            None => Err(TreeErr::Outside),
         },
         TokenKind::Range => match read_range(bytes) {
             Some(range) => Ok(Expr::Range(range)),
-            None => Err(Stop::Outside),
+            None => Err(TreeErr::Outside),
         },
-        _ => Err(Stop::Outside),
+        _ => Err(TreeErr::Outside),
     }
 }
 

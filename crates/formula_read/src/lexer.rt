@@ -1,7 +1,7 @@
 ghost use Rattle.std.specs.Prelude.{◌≡◌, ◌≢◌, ◌+◌, ◌<◌, ◌≤◌, ◌^◌, ℕ, List, Some, Err, length, map, IfOk, IfSome};
 ghost use Rattle.formula_tree.specs.Lexing.{Lexeme, Lexes, space_count};
 ghost use Rattle.formula_read.specs.Longest.{longest, fronts, later};
-ghost use Rattle.formula_read.specs.Read.{shown, IsLexed, IsLongestFront};
+ghost use Rattle.formula_read.specs.Read.{placed_token, IsLexed, IsLongestFront};
 
 use crate::kinds::{ParseErr, Token, TokenKind};
 use crate::partial::Partial;
@@ -14,7 +14,7 @@ use std::alloc::Global;
 /// memory is refused.
 pub fn tokens(alloc: Global, text: &[u8]) -> Result<Seq<Token>, ParseErr>
     requires { length text.now < 2 ^ 32 }
-    ensures tokens { IfOk result (λ ts. (ls : List Lexeme) × Lexes 0 text.now ls × (ts ≡ map shown ls)) }
+    ensures tokens { IfOk result (λ ts. (ls : List Lexeme) × Lexes 0 text.now ls × (ts ≡ map placed_token ls)) }
     ensures outside { (p : ℕ) → result ≡ Err (ParseErr.At p) → ¬ (IsLexed text.now) }
     ensures place { (p : ℕ) → result ≡ Err (ParseErr.At p) → IsLongestFront text.now p }
     ensures shallow { result ≢ Err ParseErr.Deep }

@@ -3,6 +3,7 @@
 #![tactic(auto)]
 
 mod brackets;
+mod cursor;
 mod front;
 mod kinds;
 mod laws;
@@ -11,15 +12,14 @@ mod lexer;
 mod operand;
 mod parsing;
 mod partial;
-mod place;
 mod stack;
 mod steps;
-mod stop;
 #[cfg(test)]
 mod tests;
 mod tree;
+mod tree_err;
 
 pub use kinds::{ParseErr, Token, TokenKind};
-pub use laws::{next_tokens, one_reading, text_fronts, token_fronts};
+pub use laws::{next_tokens, one_reading, text_fronts, text_readings, token_fronts};
 pub use lexer::tokens;
 pub use parsing::parse;

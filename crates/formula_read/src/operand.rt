@@ -1,8 +1,8 @@
 ghost use Rattle.std.specs.Prelude.{◌≡◌, ◌+◌, ◌<◌, ◌≤◌, IfOk, IfErr, suc};
 ghost use Rattle.formula_tree.specs.Erase.{tree_of};
-ghost use Rattle.formula_read.specs.Nested.{leaf, signed, between, bracketed, no_arguments, with_argument, called, Makes};
+ghost use Rattle.formula_read.specs.Nested.{leaf, with_sign, between, bracketed, no_arguments, with_argument, called, Makes};
 
-use crate::stop::Stop;
+use crate::tree_err::TreeErr;
 use formula_tree::{BinOp, Expr, Fun, PreOp};
 use ss_base::{Memory, Seq};
 use std::alloc::Global;
@@ -43,8 +43,8 @@ impl Operand {
     }
 
     /// The operand behind a prefix sign.
-    pub fn signed(self, alloc: Global, op: PreOp) -> Result<Operand, Stop>
-        ensures { Makes result (signed op self) }
+    pub fn with_sign(self, alloc: Global, op: PreOp) -> Result<Operand, TreeErr>
+        ensures { Makes result (with_sign op self) }
     {
         let Operand { expr, nesting } = self;
         let nesting = deeper(nesting)?;
@@ -56,7 +56,7 @@ impl Operand {
     }
 
     /// An operator between this operand and a right one.
-    pub fn between(self, alloc: Global, op: BinOp, right: Operand) -> Result<Operand, Stop>
+    pub fn between(self, alloc: Global, op: BinOp, right: Operand) -> Result<Operand, TreeErr>
         ensures { Makes result (between op self right) }
     {
         let Operand { expr, nesting } = self;
@@ -70,7 +70,7 @@ impl Operand {
     }
 
     /// The operand in brackets, which leave no node. It takes no memory.
-    pub fn bracketed(self) -> Result<Operand, Stop>
+    pub fn bracketed(self) -> Result<Operand, TreeErr>
         ensures { Makes result (bracketed self) }
     {
         let Operand { expr, nesting } = self;
@@ -90,12 +90,12 @@ impl Operand {
 
 /// The arguments of a call, and their greatest nesting, or 0 without any.
 #[derive(Debug, Drop)]
-pub struct Arguments {
+pub struct OperandList {
     exprs: Seq<Expr>,
     nesting: u8,
 }
 
-impl Model for Arguments {
+impl Model for OperandList {
     ghost use Rattle.std.specs.Prelude.{map, ◌≤◌};
     ghost use Rattle.std.specs.Coded.{codes};
     ghost use Rattle.ss_base.specs.contracts.types.Spot as spot;
@@ -111,32 +111,32 @@ impl Model for Arguments {
     ghost view = { λ a. record { trees = map tree_of a.exprs; nesting = a.nesting } };
 }
 
-impl Arguments {
+impl OperandList {
     /// None so far. It takes no memory.
-    pub fn none(alloc: Global) -> Arguments
+    pub fn none(alloc: Global) -> OperandList
         ensures { result ≡ no_arguments }
     {
-        Arguments {
+        OperandList {
             exprs: Seq::new(alloc),
             nesting: 0,
         }
     }
 
     /// One more behind the last one.
-    pub fn with(self, operand: Operand) -> Result<Arguments, Memory>
+    pub fn with(self, operand: Operand) -> Result<OperandList, Memory>
         ensures { IfOk result (λ args. args ≡ with_argument self operand) }
     {
-        let Arguments { mut exprs, nesting } = self;
+        let OperandList { mut exprs, nesting } = self;
         let nesting = nesting.max(operand.nesting);
         exprs.push(operand.expr)?;
-        Ok(Arguments { exprs, nesting })
+        Ok(OperandList { exprs, nesting })
     }
 
     /// The call of a function with these arguments. It takes no memory.
-    pub fn called(self, fun: Fun) -> Result<Operand, Stop>
+    pub fn called(self, fun: Fun) -> Result<Operand, TreeErr>
         ensures { Makes result (called fun self) }
     {
-        let Arguments { exprs, nesting } = self;
+        let OperandList { exprs, nesting } = self;
         let nesting = deeper(nesting)?;
         Ok(Operand {
             expr: Expr::Call(fun, exprs),
@@ -146,14 +146,14 @@ impl Arguments {
 }
 
 /// One more than a nesting, unless it gets above 64.
-fn deeper(nesting: u8) -> Result<u8, Stop>
+fn deeper(nesting: u8) -> Result<u8, TreeErr>
     ensures more { IfOk result (λ n. (n ≡ suc nesting) × (n ≤ 64)) }
-    ensures deep { IfErr result (λ e. (e ≡ Stop.Deep) × (64 ≤ nesting)) }
+    ensures deep { IfErr result (λ e. (e ≡ TreeErr.Deep) × (64 ≤ nesting)) }
 {
     if nesting < 64 {
         Ok(nesting + 1)
     } else {
-        Err(Stop::Deep)
+        Err(TreeErr::Deep)
     }
 }
 

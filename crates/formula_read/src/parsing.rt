@@ -2,10 +2,8 @@ ghost use Rattle.std.specs.Prelude.{◌≡◌, ◌<◌, ◌^◌, ℕ, length, Er
 ghost use Rattle.ss_base.specs.declared.types.Spot.{Spot};
 ghost use Rattle.ss_base.specs.declared.types.Span.{Span};
 ghost use Rattle.formula_tree.specs.Tree.{Tree};
-ghost use Rattle.formula_tree.specs.Grammar.{Stands};
-ghost use Rattle.formula_read.specs.Nested.{ReadAs};
-ghost use Rattle.formula_read.specs.Places.{IsFormulaText};
-ghost use Rattle.formula_read.specs.Read.{IsLongestFormulaFront};
+ghost use Rattle.formula_tree.specs.Grammar.{Stands, IsFormulaText};
+ghost use Rattle.formula_read.specs.Readings.{ReadAs, IsLongestFormulaFront};
 
 use crate::front::refusal;
 use crate::kinds::ParseErr;

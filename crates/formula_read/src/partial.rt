@@ -1,6 +1,6 @@
 ghost use Rattle.std.specs.Prelude.{◌≡◌, ◌*◌, ◌+◌, ◌-◌, ◌^◌, ◌<◌, length};
 ghost use Rattle.formula_tree.specs.Tokens.{is_name_byte};
-ghost use Rattle.formula_read.specs.Partial.{begun, step, kind_at, corner_step, address_step, name_step, word, numeral_step, quoted_step, hash_step, hash_n_step, error_step};
+ghost use Rattle.formula_read.specs.Partial.{fresh_step, partial_step, kind_at, corner_step, address_step, name_step, word, numeral_step, quoted_step, hash_step, hash_n_step, error_step};
 
 use crate::kinds::TokenKind;
 use formula_tree::error_name;
@@ -60,10 +60,10 @@ pub enum Corner {
 impl Partial {
     /// What the token has become with one more byte, or `None` where no token begins so.
     pub fn step(self, b: u8) -> Option<Partial>
-        ensures { result ≡ step self b }
+        ensures { result ≡ partial_step self b }
     {
         match self {
-            Partial::Fresh => begun(b),
+            Partial::Fresh => fresh_step(b),
             Partial::Numeral(v) => numeral_step(v, b),
             Partial::Quoted => quoted_step(b),
             Partial::Closed => (b == b'"').then_some(Partial::Quoted),
@@ -95,8 +95,8 @@ impl Partial {
 }
 
 /// The first byte of a token.
-fn begun(b: u8) -> Option<Partial>
-    ensures { result ≡ begun b }
+fn fresh_step(b: u8) -> Option<Partial>
+    ensures { result ≡ fresh_step b }
 {
     match b {
         b'0'..=b'9' => Some(Partial::Numeral(u64::from(b - b'0'))),

@@ -1,11 +1,11 @@
 ghost use Rattle.std.specs.Prelude.{◌≡◌, ◌<◌, [], ◌∷◌, ◌++◌, reverse, IfSome, IfNone};
 ghost use Rattle.formula_read.specs.Nested.{Makes};
-ghost use Rattle.formula_read.specs.Stack.{wanted, joined, settled, waiting, operator_behind, closed, parted, ended_call, finished};
-ghost use Rattle.formula_read.specs.Steps.{Settles, Gives, Answers, IsSettled};
+ghost use Rattle.formula_read.specs.Stack.{wanted, completed, reduced, waiting, operator_behind, closed, parted, ended_call, finished};
+ghost use Rattle.formula_read.specs.Steps.{Reduces, StepsTo, Answers, IsReduced};
 ghost use Rattle.formula_tree.specs.Precedence.{precedence_of_operator};
 
-use crate::operand::{Arguments, Operand};
-use crate::stop::Stop;
+use crate::operand::{Operand, OperandList};
+use crate::tree_err::TreeErr;
 use formula_tree::{BinOp, Fun, PreOp};
 use ss_base::Seq;
 use std::alloc::Global;
@@ -32,7 +32,7 @@ pub enum Frame {
     /// An open bracket.
     Group,
     /// A function's name, its open bracket, and the arguments so far.
-    Call(Fun, Arguments),
+    Call(Fun, OperandList),
 }
 
 impl Frame {
@@ -48,11 +48,11 @@ impl Frame {
     }
 
     /// The operand with what waits for it; a bracket is closed behind it.
-    fn joined(self, alloc: Global, operand: Operand) -> Result<Operand, Stop>
-        ensures { Makes result (joined self operand) }
+    fn completed(self, alloc: Global, operand: Operand) -> Result<Operand, TreeErr>
+        ensures { Makes result (completed self operand) }
     {
         match self {
-            Frame::Sign(op) => operand.signed(alloc, op),
+            Frame::Sign(op) => operand.with_sign(alloc, op),
             Frame::Left(left, op) => left.between(alloc, op, operand),
             Frame::Group => operand.bracketed(),
             Frame::Call(fun, args) => args.with(operand)?.called(fun),
@@ -65,7 +65,7 @@ fn pop_tighter(frames: &mut Seq<Frame>, precedence: u8) -> Option<Frame>
     ensures last { IfSome result (λ f. frames.old ≡ frames.new ++ f ∷ []) }
     ensures tighter { IfSome result (λ f. precedence < wanted f) }
     ensures kept { IfNone result (frames.new ≡ frames.old) }
-    ensures settled { IfNone result (IsSettled precedence (reverse frames.old)) }
+    ensures reduced { IfNone result (IsReduced precedence (reverse frames.old)) }
 {
     match frames.as_slice().last() {
         Some(frame) if frame.wanted() > precedence => frames.pop(),
@@ -74,24 +74,24 @@ fn pop_tighter(frames: &mut Seq<Frame>, precedence: u8) -> Option<Frame>
 }
 
 /// The operand with all that waits for it where something that binds so tightly follows.
-fn settle(
+fn reduce(
     alloc: Global,
     frames: &mut Seq<Frame>,
     operand: Operand,
     precedence: u8,
-) -> Result<Operand, Stop>
-    ensures { Settles result frames.new (settled precedence operand (reverse frames.old)) }
+) -> Result<Operand, TreeErr>
+    ensures { Reduces result frames.new (reduced precedence operand (reverse frames.old)) }
 {
     let mut operand = operand;
     while let Some(frame) = pop_tighter(frames, precedence) {
-        operand = frame.joined(alloc, operand)?;
+        operand = frame.completed(alloc, operand)?;
     }
     Ok(operand)
 }
 
 /// A prefix sign or an open bracket where an operand is wanted.
-pub fn wait(frames: &mut Seq<Frame>, frame: Frame) -> Result<Side, Stop>
-    ensures { Gives result frames.new (Some (waiting (frame ∷ reverse frames.old))) }
+pub fn wait(frames: &mut Seq<Frame>, frame: Frame) -> Result<Side, TreeErr>
+    ensures { StepsTo result frames.new (Some (waiting (frame ∷ reverse frames.old))) }
 {
     frames.push(frame)?;
     Ok(Side::Wants)
@@ -103,62 +103,62 @@ pub fn operate(
     frames: &mut Seq<Frame>,
     operand: Operand,
     op: BinOp,
-) -> Result<Side, Stop>
-    ensures { let before = settled (precedence_of_operator op) operand (reverse frames.old) in
-        Gives result frames.new (Some (operator_behind op before)) }
+) -> Result<Side, TreeErr>
+    ensures { let before = reduced (precedence_of_operator op) operand (reverse frames.old) in
+        StepsTo result frames.new (Some (operator_behind op before)) }
 {
-    let left = settle(alloc, frames, operand, op.precedence())?;
+    let left = reduce(alloc, frames, operand, op.precedence())?;
     frames.push(Frame::Left(left, op))?;
     Ok(Side::Wants)
 }
 
 /// A closing bracket behind an operand.
-pub fn close(alloc: Global, frames: &mut Seq<Frame>, operand: Operand) -> Result<Side, Stop>
-    ensures { Gives result frames.new (closed (settled 1 operand (reverse frames.old))) }
+pub fn close(alloc: Global, frames: &mut Seq<Frame>, operand: Operand) -> Result<Side, TreeErr>
+    ensures { StepsTo result frames.new (closed (reduced 1 operand (reverse frames.old))) }
 {
-    let operand = settle(alloc, frames, operand, 1)?;
+    let operand = reduce(alloc, frames, operand, 1)?;
     match frames.pop() {
-        Some(frame) => Ok(Side::Has(frame.joined(alloc, operand)?)),
-        None => Err(Stop::Outside),
+        Some(frame) => Ok(Side::Has(frame.completed(alloc, operand)?)),
+        None => Err(TreeErr::Outside),
     }
 }
 
 /// A semicolon behind an operand.
-pub fn part(alloc: Global, frames: &mut Seq<Frame>, operand: Operand) -> Result<Side, Stop>
-    ensures { Gives result frames.new (parted (settled 1 operand (reverse frames.old))) }
+pub fn part(alloc: Global, frames: &mut Seq<Frame>, operand: Operand) -> Result<Side, TreeErr>
+    ensures { StepsTo result frames.new (parted (reduced 1 operand (reverse frames.old))) }
 {
-    let operand = settle(alloc, frames, operand, 1)?;
+    let operand = reduce(alloc, frames, operand, 1)?;
     match frames.pop() {
         Some(Frame::Call(fun, args)) => {
             let args = args.with(operand)?;
             frames.push(Frame::Call(fun, args))?;
             Ok(Side::Wants)
         }
-        _ => Err(Stop::Outside),
+        _ => Err(TreeErr::Outside),
     }
 }
 
 /// A closing bracket where an operand is wanted.
-pub fn end_call(frames: &mut Seq<Frame>) -> Result<Side, Stop>
-    ensures { Gives result frames.new (ended_call (reverse frames.old)) }
+pub fn end_call(frames: &mut Seq<Frame>) -> Result<Side, TreeErr>
+    ensures { StepsTo result frames.new (ended_call (reverse frames.old)) }
 {
     match frames.pop() {
         Some(Frame::Call(fun, args)) => Ok(Side::Has(args.called(fun)?)),
-        _ => Err(Stop::Outside),
+        _ => Err(TreeErr::Outside),
     }
 }
 
 /// The operand of the whole text at its end.
-pub fn finish(alloc: Global, frames: &mut Seq<Frame>, side: Side) -> Result<Operand, Stop>
+pub fn finish(alloc: Global, frames: &mut Seq<Frame>, side: Side) -> Result<Operand, TreeErr>
     ensures { Answers result (finished side (reverse frames.old)) }
 {
     let Side::Has(operand) = side else {
-        return Err(Stop::Outside);
+        return Err(TreeErr::Outside);
     };
-    let operand = settle(alloc, frames, operand, 1)?;
+    let operand = reduce(alloc, frames, operand, 1)?;
     if frames.is_empty() {
         Ok(operand)
     } else {
-        Err(Stop::Outside)
+        Err(TreeErr::Outside)
     }
 }

@@ -1,13 +1,13 @@
 ghost use Rattle.std.specs.Prelude.{reverse};
-ghost use Rattle.formula_tree.specs.Tokens.{Token};
-ghost use Rattle.formula_read.specs.Stack.{begun, opened, ended, stepped};
-ghost use Rattle.formula_read.specs.Steps.{IsToken, IsSpelled, Gives};
+ghost use Rattle.formula_tree.specs.Tokens.{TokenValue};
+ghost use Rattle.formula_read.specs.Stack.{begun, call_opened, ended, stepped};
+ghost use Rattle.formula_read.specs.Steps.{IsToken, IsSpelled, StepsTo};
 
 use crate::kinds::TokenKind;
 use crate::leaves::{leaf, operator};
-use crate::operand::{Arguments, Operand};
+use crate::operand::{Operand, OperandList};
 use crate::stack::{Frame, Side, close, end_call, operate, part, wait};
-use crate::stop::Stop;
+use crate::tree_err::TreeErr;
 use formula_tree::{BinOp, Fun, PreOp};
 use ss_base::Seq;
 use std::alloc::Global;
@@ -19,16 +19,16 @@ pub fn step(
     frames: &mut Seq<Frame>,
     kind: TokenKind,
     bytes: &[u8],
-) -> Result<Side, Stop>
+) -> Result<Side, TreeErr>
     requires { IsSpelled kind bytes.now }
-    ensures { (t : Token) → IsToken t kind bytes.now →
-        Gives result frames.new (stepped side (reverse frames.old) t) }
+    ensures { (t : TokenValue) → IsToken t kind bytes.now →
+        StepsTo result frames.new (stepped side (reverse frames.old) t) }
 {
     match side {
         Side::Head => Ok(Side::Wants),
         Side::Wants => begin(alloc, frames, kind, bytes),
         Side::Named if kind == TokenKind::Open => Ok(Side::Wants),
-        Side::Named => Err(Stop::Outside),
+        Side::Named => Err(TreeErr::Outside),
         Side::Has(operand) => end(alloc, operand, frames, kind, bytes),
     }
 }
@@ -39,25 +39,25 @@ fn begin(
     frames: &mut Seq<Frame>,
     kind: TokenKind,
     bytes: &[u8],
-) -> Result<Side, Stop>
+) -> Result<Side, TreeErr>
     requires { IsSpelled kind bytes.now }
-    ensures { (t : Token) → IsToken t kind bytes.now →
-        Gives result frames.new (begun (reverse frames.old) t) }
+    ensures { (t : TokenValue) → IsToken t kind bytes.now →
+        StepsTo result frames.new (begun (reverse frames.old) t) }
 {
     match kind {
         TokenKind::Name => {
             let fun = Fun::named(alloc, bytes)?;
-            frames.push(Frame::Call(fun, Arguments::none(alloc)))?;
+            frames.push(Frame::Call(fun, OperandList::none(alloc)))?;
             Ok(Side::Named)
         }
         TokenKind::Sign => match operator(bytes) {
             BinOp::Add => wait(frames, Frame::Sign(PreOp::Plus)),
             BinOp::Sub => wait(frames, Frame::Sign(PreOp::Minus)),
-            _ => Err(Stop::Outside),
+            _ => Err(TreeErr::Outside),
         },
         TokenKind::Open => wait(frames, Frame::Group),
         TokenKind::Close => end_call(frames),
-        TokenKind::Semi => Err(Stop::Outside),
+        TokenKind::Semi => Err(TreeErr::Outside),
         _ => {
             let expr = leaf(alloc, kind, bytes)?;
             Ok(Side::Has(Operand::leaf(expr)))
@@ -72,15 +72,15 @@ fn end(
     frames: &mut Seq<Frame>,
     kind: TokenKind,
     bytes: &[u8],
-) -> Result<Side, Stop>
+) -> Result<Side, TreeErr>
     requires { IsSpelled kind bytes.now }
-    ensures { (t : Token) → IsToken t kind bytes.now →
-        Gives result frames.new (ended operand (reverse frames.old) t) }
+    ensures { (t : TokenValue) → IsToken t kind bytes.now →
+        StepsTo result frames.new (ended operand (reverse frames.old) t) }
 {
     match kind {
         TokenKind::Sign => operate(alloc, frames, operand, operator(bytes)),
         TokenKind::Close => close(alloc, frames, operand),
         TokenKind::Semi => part(alloc, frames, operand),
-        _ => Err(Stop::Outside),
+        _ => Err(TreeErr::Outside),
     }
 }

@@ -3,9 +3,9 @@ ghost use Rattle.ss_base.specs.declared.types.Spot.{Spot};
 ghost use Rattle.ss_base.specs.declared.types.Span.{Span};
 ghost use Rattle.formula_tree.specs.Tree.{Tree};
 ghost use Rattle.formula_tree.specs.Lexing.{Lexeme};
-ghost use Rattle.formula_tree.specs.Grammar.{Stands};
-ghost use Rattle.formula_read.specs.Nested.{ReadAs};
-ghost use Rattle.formula_read.specs.Places.{IsFormulaText, tokens_of};
+ghost use Rattle.formula_tree.specs.Grammar.{Stands, IsFormulaText};
+ghost use Rattle.formula_read.specs.Readings.{ReadAs};
+ghost use Rattle.formula_read.specs.Places.{tokens_of};
 ghost use Rattle.formula_read.specs.Stack.{start, walked, finished_at};
 ghost use Rattle.formula_read.specs.Steps.{AreTokens, Answers};
 
@@ -14,7 +14,7 @@ use crate::lexer::tokens;
 use crate::operand::Operand;
 use crate::stack::{Side, finish};
 use crate::steps::step;
-use crate::stop::Stop;
+use crate::tree_err::TreeErr;
 use formula_tree::Formula;
 use ss_base::Seq;
 use std::alloc::Global;
@@ -29,14 +29,14 @@ pub fn tree(alloc: Global, text: &[u8]) -> Result<Formula, ParseErr>
     let tokens = tokens(alloc, text)?;
     match operand_of(alloc, text, tokens.as_slice()) {
         Ok(operand) => Ok(Formula::new(operand.into_expr())),
-        Err(Stop::Deep) => Err(ParseErr::Deep),
-        Err(Stop::Memory) => Err(ParseErr::Memory),
-        Err(Stop::Outside) => unreachable!(),
+        Err(TreeErr::Deep) => Err(ParseErr::Deep),
+        Err(TreeErr::Memory) => Err(ParseErr::Memory),
+        Err(TreeErr::Outside) => unreachable!(),
     }
 }
 
 /// The operand that the tokens form, behind the `=`.
-fn operand_of(alloc: Global, text: &[u8], tokens: &[Token]) -> Result<Operand, Stop>
+fn operand_of(alloc: Global, text: &[u8], tokens: &[Token]) -> Result<Operand, TreeErr>
     requires { (ls : List Lexeme) × AreTokens ls text.now tokens.now }
     ensures { (ls : List Lexeme) → AreTokens ls text.now tokens.now →
         Answers result (finished_at (walked (Some start) (tokens_of ls))) }

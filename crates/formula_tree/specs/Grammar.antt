@@ -13,7 +13,7 @@ use Rattle.formula_tree.specs.Tree.{Tree, Trees}
 use Rattle.formula_tree.specs.Tree as tree
 use Rattle.formula_tree.specs.Precedence.{precedence_of_operator}
 use Rattle.formula_tree.specs.WellFormed.{IsFun}
-use Rattle.formula_tree.specs.Tokens.{Token}
+use Rattle.formula_tree.specs.Tokens.{TokenValue}
 use Rattle.formula_tree.specs.Tokens as token
 use Rattle.formula_tree.specs.Lexing.{Lexeme, Lexes}
 
@@ -25,37 +25,41 @@ operator_of_sign Minus = Sub
 mutual
   -- Tokens that bind at least as tightly as the number says (1 comparisons to 6 prefix signs, 7 what stands by itself),
   -- the tree that they form, and their nesting. Operators of one precedence group to the left. Brackets leave no node.
-  pub data Derives : ℕ → List Token → Tree Spot Span → ℕ → Type 0 where
-    tighter : {p n : ℕ} {ts : List Token} {t : Tree Spot Span} → Derives (suc p) ts t n → Derives p ts t n
-    binary : {m n : ℕ} {op : BinOp} {ss ts : List Token} {s t : Tree Spot Span} →
+  pub data Derives : ℕ → List TokenValue → Tree Spot Span → ℕ → Type 0 where
+    tighter : {p n : ℕ} {ts : List TokenValue} {t : Tree Spot Span} → Derives (suc p) ts t n → Derives p ts t n
+    binary : {m n : ℕ} {op : BinOp} {ss ts : List TokenValue} {s t : Tree Spot Span} →
         Derives (precedence_of_operator op) ss s m → Derives (suc (precedence_of_operator op)) ts t n →
         Derives (precedence_of_operator op) (ss ++ token.sign op ∷ ts) (tree.bin op s t) (suc (max m n))
-    prefix : {n : ℕ} {op : PreOp} {ts : List Token} {t : Tree Spot Span} →
+    prefix : {n : ℕ} {op : PreOp} {ts : List TokenValue} {t : Tree Spot Span} →
         Derives 6 ts t n → Derives 6 (token.sign (operator_of_sign op) ∷ ts) (tree.pre op t) (suc n)
     numeral : {n : ℕ} → Derives 7 (token.numeral n ∷ []) (tree.num (pos n)) 1
     text : {t : List ℕ} → Derives 7 (token.text t ∷ []) (tree.text t) 1
     fault : {e : CalcErr} → Derives 7 (token.fault e ∷ []) (tree.fault e) 1
     cell : {c : Spot} → Derives 7 (token.cell c ∷ []) (tree.cell c) 1
     range : {r : Span} → Derives 7 (token.range r ∷ []) (tree.range r) 1
-    brackets : {n : ℕ} {ts : List Token} {t : Tree Spot Span} →
+    brackets : {n : ℕ} {ts : List TokenValue} {t : Tree Spot Span} →
         Derives 1 ts t n → Derives 7 (token.opening ∷ ts ++ token.closing ∷ []) t (suc n)
-    call : {n : ℕ} {fun : Fun} {ts : List Token} {args : Trees Spot Span} → IsFun fun → Arguments ts args n →
+    call : {n : ℕ} {fun : Fun} {ts : List TokenValue} {args : Trees Spot Span} → IsFun fun → Arguments ts args n →
         Derives 7 (token.name (name_of fun) ∷ token.opening ∷ ts ++ token.closing ∷ []) (tree.call fun args) (suc n)
 
   -- the arguments of a call, parted by semicolons, and their greatest nesting
-  pub data Arguments : List Token → Trees Spot Span → ℕ → Type 0 where
+  pub data Arguments : List TokenValue → Trees Spot Span → ℕ → Type 0 where
     empty : Arguments [] tree.none 0
-    some : {n : ℕ} {ts : List Token} {args : Trees Spot Span} → Listed ts args n → Arguments ts args n
+    some : {n : ℕ} {ts : List TokenValue} {args : Trees Spot Span} → Listed ts args n → Arguments ts args n
 
-  pub data Listed : List Token → Trees Spot Span → ℕ → Type 0 where
-    last : {n : ℕ} {ts : List Token} {t : Tree Spot Span} → Derives 1 ts t n → Listed ts (tree.more t tree.none) n
-    more : {m n : ℕ} {ts us : List Token} {t : Tree Spot Span} {args : Trees Spot Span} →
+  pub data Listed : List TokenValue → Trees Spot Span → ℕ → Type 0 where
+    last : {n : ℕ} {ts : List TokenValue} {t : Tree Spot Span} → Derives 1 ts t n → Listed ts (tree.more t tree.none) n
+    more : {m n : ℕ} {ts us : List TokenValue} {t : Tree Spot Span} {args : Trees Spot Span} →
         Derives 1 ts t m → Listed us args n → Listed (ts ++ token.semicolon ∷ us) (tree.more t args) (max m n)
 
 -- the text is a formula's: it spells `=` and tokens that form the tree, and has that nesting
 abbrev pub Stands : List ℕ → Tree Spot Span → ℕ → Type 0
 Stands bs t n =
     (head : Lexeme) × (ls : List Lexeme) × Lexes 0 bs (head ∷ ls) × (head.token ≡ token.sign Eq) × Derives 1 (map (λ l. l.token) ls) t n
+
+-- the text is a formula's
+abbrev pub IsFormulaText : List ℕ → Type 0
+IsFormulaText bs = (t : Tree Spot Span) × (n : ℕ) × Stands bs t n
 
 -- some formula's text begins so
 abbrev pub IsFront : List ℕ → Type 0

@@ -1,6 +1,6 @@
 -- A text cut into tokens. Any number of spaces may stand behind each token, and none before the first.
 use Rattle.std.specs.Prelude.{ℕ, suc, ◌+◌, nat_eq, if◌then◌else◌, List, [], ◌∷◌, ◌++◌, length}
-use Rattle.formula_tree.specs.Tokens.{Token, IsNext}
+use Rattle.formula_tree.specs.Tokens.{TokenValue, IsNext}
 
 -- the spaces at the front, and what is behind them
 abbrev pub space_count : List ℕ → ℕ
@@ -15,12 +15,12 @@ past_spaces (b ∷ bs) = if nat_eq b 32 then past_spaces bs else b ∷ bs
 pub record Lexeme : Type 0 where
   pub from : ℕ
   pub to : ℕ
-  pub token : Token
+  pub token : TokenValue
 
 -- these are the tokens of a text whose first byte stands at some place of a longer text
 pub data Lexes : ℕ → List ℕ → List Lexeme → Type 0 where
   end : {at : ℕ} → Lexes at [] []
-  next : {at : ℕ} {piece behind : List ℕ} {t : Token} {ls : List Lexeme} → IsNext piece t behind →
+  next : {at : ℕ} {piece behind : List ℕ} {t : TokenValue} {ls : List Lexeme} → IsNext piece t behind →
       Lexes (at + length piece + space_count behind) (past_spaces behind) ls →
       Lexes at (piece ++ behind) (record { from = at; to = at + length piece; token = t } ∷ ls)
 

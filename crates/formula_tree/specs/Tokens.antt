@@ -11,17 +11,17 @@ use Rattle.cell_addr.specs.Cells.{cell_of, range_between}
 use Rattle.formula_tree.specs.declared.operators.BinOp.{BinOp}
 use Rattle.formula_tree.specs.declared.operators.BinOp.TheVariants.{Pow, Mul, Div, Add, Sub, Join, Eq, Ne, Lt, Le, Gt, Ge}
 
-pub data Token : Type 0 where
-  numeral : ℕ → Token
-  text : List ℕ → Token
-  fault : CalcErr → Token
-  cell : Spot → Token
-  range : Span → Token
-  name : List ℕ → Token  -- a function's, in upper case
-  sign : BinOp → Token  -- by the operator that it is between two operands
-  opening : Token
-  closing : Token
-  semicolon : Token
+pub data TokenValue : Type 0 where
+  numeral : ℕ → TokenValue
+  text : List ℕ → TokenValue
+  fault : CalcErr → TokenValue
+  cell : Spot → TokenValue
+  range : Span → TokenValue
+  name : List ℕ → TokenValue  -- a function's, in upper case
+  sign : BinOp → TokenValue  -- by the operator that it is between two operands
+  opening : TokenValue
+  closing : TokenValue
+  semicolon : TokenValue
 
 -- a byte that a text may have
 abbrev pub is_printable : ℕ → Bool
@@ -73,7 +73,7 @@ SpellsRange bs r =
     (first last : List ℕ) × (a b : Spot) × (bs ≡ first ++ 58 ∷ last) × (cell_of first ≡ Some a) × (cell_of last ≡ Some b) × (r ≡ range_between a b)
 
 -- the bytes spell the token
-abbrev pub Spells : List ℕ → Token → Type 0
+abbrev pub Spells : List ℕ → TokenValue → Type 0
 Spells bs (numeral n) = IsNumeral 10 bs × (digits_value 10 bs ≡ n) × (n < 2 ^ 63)
 Spells bs (text t) = (bs ≡ 34 ∷ doubled t ++ 34 ∷ []) × (list_all is_printable t ≡ true)
 Spells bs (fault e) = bs ≡ error_name e
@@ -86,16 +86,16 @@ Spells bs closing = bs ≡ codes ")"
 Spells bs semicolon = bs ≡ codes ";"
 
 -- a name stands only directly before an opening bracket
-abbrev pub Follows : Token → List ℕ → Type 0
+abbrev pub Follows : TokenValue → List ℕ → Type 0
 Follows (name n) rest = (more : List ℕ) × (rest ≡ 40 ∷ more)
 Follows t rest = Unit {0}
 
 -- a text begins with the token, spelled by the piece, and goes on with the rest
-abbrev pub Fits : List ℕ → Token → List ℕ → Type 0
+abbrev pub Fits : List ℕ → TokenValue → List ℕ → Type 0
 Fits piece t rest = Spells piece t × Follows t rest
 
 -- The next token of a text is the longest that fits. Where a cell and a name of one length fit, it is the name.
-pub record IsNext (piece : List ℕ) (t : Token) (rest : List ℕ) : Type 0 where
+pub record IsNext (piece : List ℕ) (t : TokenValue) (rest : List ℕ) : Type 0 where
   pub fits : Fits piece t rest
-  pub longest : (p : List ℕ) (u : Token) (r : List ℕ) → p ++ r ≡ piece ++ rest → Fits p u r → length p ≤ length piece
+  pub longest : (p : List ℕ) (u : TokenValue) (r : List ℕ) → p ++ r ≡ piece ++ rest → Fits p u r → length p ≤ length piece
   pub named : (n : List ℕ) → Fits piece (name n) rest → t ≡ name n

@@ -1,5 +1,5 @@
 use Rattle.std.proofs.Common.{◌≡◌, ℕ, sym, ◌∙◌, subst, length, rules}
-use Rattle.formula_read.specs.Read.{IsLongestFormulaFront}
+use Rattle.formula_read.specs.Readings.{IsLongestFormulaFront}
 use Rattle.formula_read.proofs.Stops.{reaches_more, stopped_outside, stopped_place, end_formula, end_outside, end_place}
 use Rattle.formula_read.proofs.front.refusal.Goals as goal
 

@@ -1,5 +1,5 @@
 use Rattle.std.proofs.Common.{Ok, ap, sym, subst}
-use Rattle.formula_read.specs.Places.{IsFormulaText}
+use Rattle.formula_tree.specs.Grammar.{IsFormulaText}
 use Rattle.formula_read.proofs.Answered.{no_place}
 use Rattle.formula_read.proofs.parsing.parse.Goals as goal
 

@@ -1,7 +1,7 @@
 use Rattle.std.proofs.Common.{◌∙◌, ap}
 use Rattle.formula_tree.proofs.Trees.{tree_of-call}
 use Rattle.formula_read.specs.Nested.{called}
-use Rattle.formula_read.proofs.operand.Arguments.called.Goals as goal
+use Rattle.formula_read.proofs.operand.OperandList.called.Goals as goal
 
 pub returns : goal.returns
 returns c =

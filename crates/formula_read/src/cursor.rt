@@ -1,6 +1,6 @@
 ghost use Rattle.std.specs.Prelude.{◌≡◌, ◌↔◌, [], Some, IfOk, IsTrue};
 ghost use Rattle.formula_read.specs.Places.{head, has};
-ghost use Rattle.formula_read.specs.Reading.{operand_of, after_kind, begins_leaf, begins_operand, begins_sign, admits, between};
+ghost use Rattle.formula_read.specs.Reading.{operand_of, after_kind, begins_leaf, begins_operand, begins_sign, admits, read_between};
 
 use crate::brackets::{Bracket, Brackets};
 use crate::kinds::TokenKind;
@@ -26,52 +26,52 @@ pub enum Stage {
 
 /// Where a reader of a formula's tokens stands, and the brackets that are open there.
 #[derive(Debug, Drop)]
-pub struct Place {
+pub struct Cursor {
     stage: Stage,
     brackets: Brackets,
 }
 
-impl Model for Place {
+impl Model for Cursor {
     ghost use Rattle.std.specs.Prelude.{IsTrue};
     ghost use Rattle.formula_read.specs.Places as places;
-    ghost use Rattle.formula_read.specs.Standing.{place_of, is_sound};
+    ghost use Rattle.formula_read.specs.Standing.{place_at_stage, is_sound};
 
     ghost Value = { places.Place };
 
-    ghost view = { λ p. place_of p.stage p.brackets };
+    ghost view = { λ p. place_at_stage p.stage p.brackets };
 
     ghost invariant = { λ p. IsTrue (is_sound p.stage p.brackets) };
 }
 
-impl Place {
+impl Cursor {
     /// Before the `=`. It takes no memory.
-    pub fn new(alloc: Global) -> Place
+    pub fn new(alloc: Global) -> Cursor
         ensures { result ≡ head }
     {
-        Place {
+        Cursor {
             stage: Stage::Head,
             brackets: Brackets::new(alloc),
         }
     }
 
     /// The place behind a token of this kind, or `None` where no such token may stand.
-    pub fn after(self, kind: TokenKind) -> Result<Option<Place>, Memory>
+    pub fn after(self, kind: TokenKind) -> Result<Option<Cursor>, Memory>
         ensures { IfOk result (λ p. p ≡ after_kind self kind) }
     {
-        let Place {
+        let Cursor {
             stage,
             mut brackets,
         } = self;
         match (stage, kind) {
-            (Stage::Head, TokenKind::Sign) => Ok(Some(Place {
+            (Stage::Head, TokenKind::Sign) => Ok(Some(Cursor {
                 stage: Stage::Wants,
                 brackets,
             })),
-            (Stage::Named, TokenKind::Open) => Ok(Some(Place {
+            (Stage::Named, TokenKind::Open) => Ok(Some(Cursor {
                 stage: Stage::Begins,
                 brackets,
             })),
-            (Stage::Begins, TokenKind::Close) => Ok(Some(Place {
+            (Stage::Begins, TokenKind::Close) => Ok(Some(Cursor {
                 stage: Stage::Has,
                 brackets,
             })),
@@ -86,8 +86,8 @@ impl Place {
     }
 
     /// A byte between two tokens: a space, or the first one of a token that may stand here.
-    pub fn between(self, b: u8) -> Option<(Place, Partial)>
-        ensures { result ≡ between self b }
+    pub fn read_between(self, b: u8) -> Option<(Cursor, Partial)>
+        ensures { result ≡ read_between self b }
     {
         if b == b' ' && self.stage != Stage::Head {
             return Some((self, Partial::Fresh));
@@ -125,7 +125,7 @@ impl Place {
 }
 
 /// The place behind a token of this kind, where an operand is wanted.
-fn after_operand(mut brackets: Brackets, kind: TokenKind) -> Result<Option<Place>, Memory>
+fn after_operand(mut brackets: Brackets, kind: TokenKind) -> Result<Option<Cursor>, Memory>
     ensures { IfOk result (λ p. p ≡ operand_of brackets kind) }
 {
     let stage = match kind {
@@ -138,26 +138,26 @@ fn after_operand(mut brackets: Brackets, kind: TokenKind) -> Result<Option<Place
         TokenKind::Close | TokenKind::Semi => return Ok(None),
         _ => Stage::Has,
     };
-    Ok(Some(Place { stage, brackets }))
+    Ok(Some(Cursor { stage, brackets }))
 }
 
 /// The place behind a token of this kind, where an operand is there.
-fn behind_operand(mut brackets: Brackets, kind: TokenKind) -> Option<Place>
+fn behind_operand(mut brackets: Brackets, kind: TokenKind) -> Option<Cursor>
     ensures { result ≡ after_kind (has brackets) kind }
 {
     match kind {
-        TokenKind::Sign => Some(Place {
+        TokenKind::Sign => Some(Cursor {
             stage: Stage::Wants,
             brackets,
         }),
         TokenKind::Close => {
             brackets.pop()?;
-            Some(Place {
+            Some(Cursor {
                 stage: Stage::Has,
                 brackets,
             })
         }
-        TokenKind::Semi if brackets.is_in_call() => Some(Place {
+        TokenKind::Semi if brackets.is_in_call() => Some(Cursor {
             stage: Stage::Wants,
             brackets,
         }),
