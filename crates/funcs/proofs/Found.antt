@@ -12,24 +12,17 @@ use Rattle.sheet_value.specs.Environment.{Environment}
 use Rattle.funcs.specs.declared.arg.Arg.{Arg}
 use Rattle.funcs.specs.declared.arg.Arg.TheVariants as arg
 use Rattle.funcs.specs.Steps.{and_then, all_of}
-use Rattle.funcs.specs.Areas.{Item, sheet, area, items, sheet_items, items_of, items_of_all, item_number, item_numbers, sheet_number, sheet_numbers, appended}
+use Rattle.funcs.specs.Areas.{Item, sheet, area, items, sheet_items, items_of, items_of_all, item_number, item_numbers, sheet_number, sheet_numbers}
+use Rattle.funcs.specs.Tallies.{TallyOf, with_numbers}
+use Rattle.funcs.proofs.Tallies.{tallied-both}
+
+-- ---- a list found, and what comes behind it
+abbrev pub appended : {A : Type 0} → List A → Result (List A) CalcErr → Result (List A) CalcErr
+appended found r = and_then r (λ more. Ok (found ++ more))
 
 pub appended-more : {A : Type 0} (xs : List A) (x : A) (r : Result (List A) CalcErr) → appended xs (and_then r (λ more. Ok (x ∷ more))) ≡ appended (xs ++ x ∷ []) r
 appended-more xs x (Ok more) = λ i. Ok (sym (append_assoc xs (x ∷ []) more) i)
 appended-more xs x (Err e) = refl
-
--- some results, and others after them
-pub appended-both : {A : Type 0} (xs : List A) (rs ss : List (Result A CalcErr)) → appended xs (all_of (rs ++ ss)) ≡ and_then (appended xs (all_of rs)) (λ more. appended more (all_of ss))
-appended-both {A} xs [] ss = ap (λ (ms : List A). appended ms (all_of ss)) (sym (append-nil xs))
-appended-both {A} xs (Ok x ∷ rs) ss =
-    appended-more xs x (all_of (rs ++ ss))
-    ∙ (appended-both (xs ++ x ∷ []) rs ss
-    ∙ ap (λ (r : Result (List A) CalcErr). and_then r (λ more. appended more (all_of ss))) (sym (appended-more xs x (all_of rs))))
-appended-both xs (Err e ∷ rs) ss = refl
-
-pub appended-none : {A : Type 0} (r : Result (List A) CalcErr) → appended [] r ≡ r
-appended-none (Ok xs) = refl
-appended-none (Err e) = refl
 
 -- none left
 pub appended_end : {A B : Type 0} (f : List B → List (Result A CalcErr)) (none : f [] ≡ []) (found : List A) (bs : List B) (i : ℕ) → length bs ≤ i → appended found (all_of (f (drop i bs))) ≡ Ok found
@@ -38,40 +31,46 @@ appended_end {A} {B} f none found bs i h =
     ∙ (ap (λ (rs : List (Result A CalcErr)). appended found (all_of rs)) none
     ∙ (λ j. Ok (append-nil found j)))
 
+-- ---- the tally of what is found
+pub tallied_end : {B : Type 0} (f : List B → List (Result ℤ CalcErr)) (none : f [] ≡ []) (t : TallyOf) (bs : List B) (i : ℕ) → length bs ≤ i → with_numbers t (all_of (f (drop i bs))) ≡ Ok t
+tallied_end {B} f none t bs i h =
+    ap (λ (cs : List B). with_numbers t (all_of (f cs))) (drop_all i bs h)
+    ∙ ap (λ (rs : List (Result ℤ CalcErr)). with_numbers t (all_of rs)) none
+
 module _ {A : Type 0} (h : A → Option (Result ℤ CalcErr)) where
   -- the numbers of some items, and of others after them
-  parts : (ns : List ℤ) (xs ys : List A) → appended ns (all_of (filter_map h (xs ++ ys))) ≡ and_then (appended ns (all_of (filter_map h xs))) (λ more. appended more (all_of (filter_map h ys)))
-  parts ns xs ys = ap (λ (rs : List (Result ℤ CalcErr)). appended ns (all_of rs)) (filter_map-append h xs ys) ∙ appended-both ns (filter_map h xs) (filter_map h ys)
+  parts : (t : TallyOf) (xs ys : List A) → with_numbers t (all_of (filter_map h (xs ++ ys))) ≡ and_then (with_numbers t (all_of (filter_map h xs))) (λ u. with_numbers u (all_of (filter_map h ys)))
+  parts t xs ys = ap (λ (rs : List (Result ℤ CalcErr)). with_numbers t (all_of rs)) (filter_map-append h xs ys) ∙ tallied-both t (filter_map h xs) (filter_map h ys)
 
-  pub parts-ok : (ns more : List ℤ) (xs ys : List A) → appended ns (all_of (filter_map h xs)) ≡ Ok more → appended ns (all_of (filter_map h (xs ++ ys))) ≡ appended more (all_of (filter_map h ys))
-  parts-ok ns more xs ys e = parts ns xs ys ∙ ap (λ (r : Result (List ℤ) CalcErr). and_then r (λ ms. appended ms (all_of (filter_map h ys)))) e
+  pub parts-ok : (t u : TallyOf) (xs ys : List A) → Ok u ≡ with_numbers t (all_of (filter_map h xs)) → with_numbers t (all_of (filter_map h (xs ++ ys))) ≡ with_numbers u (all_of (filter_map h ys))
+  parts-ok t u xs ys e = parts t xs ys ∙ ap (λ (r : Result TallyOf CalcErr). and_then r (λ w. with_numbers w (all_of (filter_map h ys)))) (sym e)
 
-  pub parts-err : (ns : List ℤ) (d : CalcErr) (xs ys : List A) → appended ns (all_of (filter_map h xs)) ≡ Err d → appended ns (all_of (filter_map h (xs ++ ys))) ≡ Err d
-  parts-err ns d xs ys e = parts ns xs ys ∙ ap (λ (r : Result (List ℤ) CalcErr). and_then r (λ ms. appended ms (all_of (filter_map h ys)))) e
+  pub parts-err : (t : TallyOf) (d : CalcErr) (xs ys : List A) → Err d ≡ with_numbers t (all_of (filter_map h xs)) → with_numbers t (all_of (filter_map h (xs ++ ys))) ≡ Err d
+  parts-err t d xs ys e = parts t xs ys ∙ ap (λ (r : Result TallyOf CalcErr). and_then r (λ w. with_numbers w (all_of (filter_map h ys)))) (sym e)
 
 -- ---- the items of an area, one by one
-module _ (ns : List ℤ) (vs : List Value) (i : ℕ) (v : Value) (this : slice_get vs i ≡ Some v) where
+module _ (t : TallyOf) (vs : List Value) (i : ℕ) (v : Value) (this : slice_get vs i ≡ Some v) where
   rest : drop i vs ≡ (v ∷ []) ++ drop (i + 1) vs
   rest = drop_more vs i v (slice_get_within vs i v this) ∙ ap (λ (w : Value). w ∷ drop (i + 1) vs) (get_or_from_slice_get vs i v v this)
 
-  pub value-ok : (more : List ℤ) → appended ns (sheet_numbers (v ∷ [])) ≡ Ok more → appended ns (sheet_numbers (drop i vs)) ≡ appended more (sheet_numbers (drop (i + 1) vs))
-  value-ok more e = ap (λ (ws : List Value). appended ns (sheet_numbers ws)) rest ∙ parts-ok sheet_number ns more (v ∷ []) (drop (i + 1) vs) e
+  pub value-ok : (u : TallyOf) → Ok u ≡ with_numbers t (sheet_numbers (v ∷ [])) → with_numbers t (sheet_numbers (drop i vs)) ≡ with_numbers u (sheet_numbers (drop (i + 1) vs))
+  value-ok u e = ap (λ (ws : List Value). with_numbers t (sheet_numbers ws)) rest ∙ parts-ok sheet_number t u (v ∷ []) (drop (i + 1) vs) e
 
-  pub value-err : (d : CalcErr) → appended ns (sheet_numbers (v ∷ [])) ≡ Err d → appended ns (sheet_numbers (drop i vs)) ≡ Err d
-  value-err d e = ap (λ (ws : List Value). appended ns (sheet_numbers ws)) rest ∙ parts-err sheet_number ns d (v ∷ []) (drop (i + 1) vs) e
+  pub value-err : (d : CalcErr) → Err d ≡ with_numbers t (sheet_numbers (v ∷ [])) → with_numbers t (sheet_numbers (drop i vs)) ≡ Err d
+  value-err d e = ap (λ (ws : List Value). with_numbers t (sheet_numbers ws)) rest ∙ parts-err sheet_number t d (v ∷ []) (drop (i + 1) vs) e
 
 -- ---- the items of some arguments, one argument after another
-module _ (E : Environment) (ns : List ℤ) (args : List Arg) (i : ℕ) (a : Arg) (inside : i < length args) (this : a ≡ get_or args i a) where
+module _ (E : Environment) (t : TallyOf) (args : List Arg) (i : ℕ) (a : Arg) (inside : i < length args) (this : a ≡ get_or args i a) where
   others : items_of_all E (drop i args) ≡ items_of E a ++ items_of_all E (drop (i + 1) args)
   others =
       ap (λ (xs : List Arg). items_of_all E xs) (drop_more args i a inside ∙ ap (λ (b : Arg). b ∷ drop (i + 1) args) (sym this))
       ∙ flat_map-cons (λ (b : Arg). items_of E b) a (drop (i + 1) args)
 
-  pub arg-ok : (more : List ℤ) → appended ns (item_numbers (items_of E a)) ≡ Ok more → appended ns (item_numbers (items_of_all E (drop i args))) ≡ appended more (item_numbers (items_of_all E (drop (i + 1) args)))
-  arg-ok more e = ap (λ (is : List Item). appended ns (item_numbers is)) others ∙ parts-ok item_number ns more (items_of E a) (items_of_all E (drop (i + 1) args)) e
+  pub arg-ok : (u : TallyOf) → Ok u ≡ with_numbers t (item_numbers (items_of E a)) → with_numbers t (item_numbers (items_of_all E (drop i args))) ≡ with_numbers u (item_numbers (items_of_all E (drop (i + 1) args)))
+  arg-ok u e = ap (λ (is : List Item). with_numbers t (item_numbers is)) others ∙ parts-ok item_number t u (items_of E a) (items_of_all E (drop (i + 1) args)) e
 
-  pub arg-err : (d : CalcErr) → appended ns (item_numbers (items_of E a)) ≡ Err d → appended ns (item_numbers (items_of_all E (drop i args))) ≡ Err d
-  arg-err d e = ap (λ (is : List Item). appended ns (item_numbers is)) others ∙ parts-err item_number ns d (items_of E a) (items_of_all E (drop (i + 1) args)) e
+  pub arg-err : (d : CalcErr) → Err d ≡ with_numbers t (item_numbers (items_of E a)) → with_numbers t (item_numbers (items_of_all E (drop i args))) ≡ Err d
+  arg-err d e = ap (λ (is : List Item). with_numbers t (item_numbers is)) others ∙ parts-err item_number t d (items_of E a) (items_of_all E (drop (i + 1) args)) e
 
 -- the numbers of an area's items are those of its values
 pub area-numbers : (vs : List Value) → item_numbers (map sheet vs) ≡ sheet_numbers vs

@@ -5,4 +5,5 @@ mod Joined
 pub mod Limits
 mod Shapes
 mod Steps
+mod Tallies
 mod Walks

@@ -15,9 +15,11 @@ use Rattle.funcs.specs.Refs.{owned}
 use Rattle.funcs.specs.Steps.{and_then, all_of}
 use Rattle.funcs.specs.Numbers.{in_range}
 use Rattle.funcs.specs.Args.{no_error}
-use Rattle.funcs.specs.Areas.{same, item_at, sheet_number, sheet_numbers, appended}
+use Rattle.funcs.specs.Areas.{same, item_at, sheet_number, sheet_numbers}
+use Rattle.funcs.specs.Tallies.{TallyOf, with_number, with_numbers}
 use Rattle.funcs.specs.Tables.{begins_with, looked_up, chosen, number_or_zero, products}
-use Rattle.funcs.proofs.Found.{appended-more, appended-both, parts-ok, parts-err}
+use Rattle.funcs.proofs.Found.{appended, appended-more, parts-ok, parts-err}
+use Rattle.funcs.proofs.Tallies.{tallied-both}
 
 module _ {A : Type 0} (xs : List A) (i : ℕ) (x : A) (this : slice_get xs i ≡ Some x) where
   inside : i < length xs
@@ -86,18 +88,18 @@ module _ (vs ws : List Value) (i : ℕ) (v w : Value) (one : slice_get vs i ≡ 
   products-next : products (drop i vs) (drop i ws) ≡ in_range (number_or_zero v *ℤ number_or_zero w) ∷ products (drop (i + 1) vs) (drop (i + 1) ws)
   products-next = λ j. products (left vs i v one j) (left ws i w other j)
 
-  pub product-ok : (found more : List ℤ) → appended found (all_of (products (v ∷ []) (w ∷ []))) ≡ Ok more →
-      appended found (all_of (products (drop i vs) (drop i ws))) ≡ appended more (all_of (products (drop (i + 1) vs) (drop (i + 1) ws)))
-  product-ok found more e =
-      ap (λ (rs : List (Result ℤ CalcErr)). appended found (all_of rs)) products-next
-      ∙ (appended-both found (products (v ∷ []) (w ∷ [])) (products (drop (i + 1) vs) (drop (i + 1) ws))
-      ∙ ap (λ (r : Result (List ℤ) CalcErr). and_then r (λ ns. appended ns (all_of (products (drop (i + 1) vs) (drop (i + 1) ws))))) e)
+  pub product-ok : (t u : TallyOf) → Ok u ≡ with_numbers t (all_of (products (v ∷ []) (w ∷ []))) →
+      with_numbers t (all_of (products (drop i vs) (drop i ws))) ≡ with_numbers u (all_of (products (drop (i + 1) vs) (drop (i + 1) ws)))
+  product-ok t u e =
+      ap (λ (rs : List (Result ℤ CalcErr)). with_numbers t (all_of rs)) products-next
+      ∙ (tallied-both t (products (v ∷ []) (w ∷ [])) (products (drop (i + 1) vs) (drop (i + 1) ws))
+      ∙ ap (λ (r : Result TallyOf CalcErr). and_then r (λ x. with_numbers x (all_of (products (drop (i + 1) vs) (drop (i + 1) ws))))) (sym e))
 
-  pub product-err : (found : List ℤ) (d : CalcErr) → appended found (all_of (products (v ∷ []) (w ∷ []))) ≡ Err d → appended found (all_of (products (drop i vs) (drop i ws))) ≡ Err d
-  product-err found d e =
-      ap (λ (rs : List (Result ℤ CalcErr)). appended found (all_of rs)) products-next
-      ∙ (appended-both found (products (v ∷ []) (w ∷ [])) (products (drop (i + 1) vs) (drop (i + 1) ws))
-      ∙ ap (λ (r : Result (List ℤ) CalcErr). and_then r (λ ns. appended ns (all_of (products (drop (i + 1) vs) (drop (i + 1) ws))))) e)
+  pub product-err : (t : TallyOf) (d : CalcErr) → Err d ≡ with_numbers t (all_of (products (v ∷ []) (w ∷ []))) → with_numbers t (all_of (products (drop i vs) (drop i ws))) ≡ Err d
+  product-err t d e =
+      ap (λ (rs : List (Result ℤ CalcErr)). with_numbers t (all_of rs)) products-next
+      ∙ (tallied-both t (products (v ∷ []) (w ∷ [])) (products (drop (i + 1) vs) (drop (i + 1) ws))
+      ∙ ap (λ (r : Result TallyOf CalcErr). and_then r (λ x. with_numbers x (all_of (products (drop (i + 1) vs) (drop (i + 1) ws))))) (sym e))
 
   chosen-next : (x : Value) → chosen x (drop i vs) (drop i ws) ≡ chosen x (v ∷ []) (w ∷ []) ++ chosen x (drop (i + 1) vs) (drop (i + 1) ws)
   chosen-next x = (λ j. chosen x (left vs i v one j) (left ws i w other j)) ∙ by_test (same v x) (zip (drop (i + 1) vs) (drop (i + 1) ws))
@@ -106,13 +108,25 @@ module _ (vs ws : List Value) (i : ℕ) (v w : Value) (one : slice_get vs i ≡ 
       by_test true ps = refl
       by_test false ps = refl
 
-  pub chosen-ok : (x : Value) (found more : List ℤ) → appended found (sheet_numbers (chosen x (v ∷ []) (w ∷ []))) ≡ Ok more →
-      appended found (sheet_numbers (chosen x (drop i vs) (drop i ws))) ≡ appended more (sheet_numbers (chosen x (drop (i + 1) vs) (drop (i + 1) ws)))
-  chosen-ok x found more e =
-      ap (λ (us : List Value). appended found (sheet_numbers us)) (chosen-next x)
-      ∙ parts-ok sheet_number found more (chosen x (v ∷ []) (w ∷ [])) (chosen x (drop (i + 1) vs) (drop (i + 1) ws)) e
+  pub chosen-ok : (x : Value) (t u : TallyOf) → Ok u ≡ with_numbers t (sheet_numbers (chosen x (v ∷ []) (w ∷ []))) →
+      with_numbers t (sheet_numbers (chosen x (drop i vs) (drop i ws))) ≡ with_numbers u (sheet_numbers (chosen x (drop (i + 1) vs) (drop (i + 1) ws)))
+  chosen-ok x t u e =
+      ap (λ (us : List Value). with_numbers t (sheet_numbers us)) (chosen-next x)
+      ∙ parts-ok sheet_number t u (chosen x (v ∷ []) (w ∷ [])) (chosen x (drop (i + 1) vs) (drop (i + 1) ws)) e
 
-  pub chosen-err : (x : Value) (found : List ℤ) (d : CalcErr) → appended found (sheet_numbers (chosen x (v ∷ []) (w ∷ []))) ≡ Err d → appended found (sheet_numbers (chosen x (drop i vs) (drop i ws))) ≡ Err d
-  chosen-err x found d e =
-      ap (λ (us : List Value). appended found (sheet_numbers us)) (chosen-next x)
-      ∙ parts-err sheet_number found d (chosen x (v ∷ []) (w ∷ [])) (chosen x (drop (i + 1) vs) (drop (i + 1) ws)) e
+  pub chosen-err : (x : Value) (t : TallyOf) (d : CalcErr) → Err d ≡ with_numbers t (sheet_numbers (chosen x (v ∷ []) (w ∷ []))) → with_numbers t (sheet_numbers (chosen x (drop i vs) (drop i ws))) ≡ Err d
+  chosen-err x t d e =
+      ap (λ (us : List Value). with_numbers t (sheet_numbers us)) (chosen-next x)
+      ∙ parts-err sheet_number t d (chosen x (v ∷ []) (w ∷ [])) (chosen x (drop (i + 1) vs) (drop (i + 1) ws)) e
+
+-- at the end no item is left beside another
+pub chosen-end : (x : Value) (t : TallyOf) (vs ws : List Value) (i : ℕ) → length vs ≤ i → length ws ≤ i → with_numbers t (sheet_numbers (chosen x (drop i vs) (drop i ws))) ≡ Ok t
+chosen-end x t vs ws i h k = λ j. with_numbers t (sheet_numbers (chosen x (drop_all i vs h j) (drop_all i ws k j)))
+
+pub product-end : (t : TallyOf) (vs ws : List Value) (i : ℕ) → length vs ≤ i → length ws ≤ i → with_numbers t (all_of (products (drop i vs) (drop i ws))) ≡ Ok t
+product-end t vs ws i h k = λ j. with_numbers t (all_of (products (drop_all i vs h j) (drop_all i ws k j)))
+
+-- one product
+pub product-one : (t : TallyOf) (n : ℤ) (r : Result ℤ CalcErr) → Ok n ≡ r → Ok (with_number t n) ≡ with_numbers t (and_then r (λ x. Ok (x ∷ [])))
+product-one t n (Ok m) e = let is : n ≡ m = cc in λ i. Ok (with_number t (is i))
+product-one t n (Err d) e = absurd (cc)

@@ -86,7 +86,3 @@ item_numbers is = all_of (filter_map item_number is)
 
 abbrev pub numbers : Environment → List Arg → Result (List ℤ) CalcErr
 numbers E args = item_numbers (items_of_all E args)
-
--- what was found, and what comes behind it
-abbrev pub appended : {A : Type 0} → List A → Result (List A) CalcErr → Result (List A) CalcErr
-appended found r = and_then r (λ more. Ok (found ++ more))

@@ -1,7 +1,9 @@
 pub mod Steps
 pub mod Refs
+pub mod Kept
 pub mod Stops
 pub mod Numbers
+pub mod Tallies
 pub mod Args
 pub mod Areas
 pub mod Places

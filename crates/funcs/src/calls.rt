@@ -19,10 +19,11 @@ use ss_base::{CalcErr, Memory};
 use std::alloc::Global;
 
 /// SUM: the exact total of the numbers of the arguments; `#NUM!` outside 64 bits.
-pub fn sum_fn<L: Look>(alloc: Global, args: &[Arg], look: &L) -> Result<Value, Memory>
-    ensures { IfOk result (λ v. v ≡ answer (sum_of (L.environment look.now) args.now)) }
+pub fn sum_fn<L: Look>(_alloc: Global, args: &[Arg], look: &L) -> Result<Value, Memory>
+    requires { length args.now < 2 ^ 24 }
+    ensures { result ≡ Ok (answer (sum_of (L.environment look.now) args.now)) }
 {
-    settled(list::sum(alloc, args, look))
+    Ok(answer(list::sum(args, look)))
 }
 
 /// COUNT: how many items are numbers; errors are passed over.
@@ -42,31 +43,35 @@ pub fn counta_fn<L: Look>(_alloc: Global, args: &[Arg], look: &L) -> Result<Valu
 }
 
 /// MIN: the least number, 0 where there is none.
-pub fn min_fn<L: Look>(alloc: Global, args: &[Arg], look: &L) -> Result<Value, Memory>
-    ensures { IfOk result (λ v. v ≡ answer (min_of (L.environment look.now) args.now)) }
+pub fn min_fn<L: Look>(_alloc: Global, args: &[Arg], look: &L) -> Result<Value, Memory>
+    requires { length args.now < 2 ^ 24 }
+    ensures { result ≡ Ok (answer (min_of (L.environment look.now) args.now)) }
 {
-    settled(list::min(alloc, args, look))
+    Ok(answer(list::min(args, look)))
 }
 
 /// MAX: the greatest number, 0 where there is none.
-pub fn max_fn<L: Look>(alloc: Global, args: &[Arg], look: &L) -> Result<Value, Memory>
-    ensures { IfOk result (λ v. v ≡ answer (max_of (L.environment look.now) args.now)) }
+pub fn max_fn<L: Look>(_alloc: Global, args: &[Arg], look: &L) -> Result<Value, Memory>
+    requires { length args.now < 2 ^ 24 }
+    ensures { result ≡ Ok (answer (max_of (L.environment look.now) args.now)) }
 {
-    settled(list::max(alloc, args, look))
+    Ok(answer(list::max(args, look)))
 }
 
 /// AND: 1 where no number is 0, else 0; `#VALUE!` where there is none.
-pub fn and_fn<L: Look>(alloc: Global, args: &[Arg], look: &L) -> Result<Value, Memory>
-    ensures { IfOk result (λ v. v ≡ answer (and_of (L.environment look.now) args.now)) }
+pub fn and_fn<L: Look>(_alloc: Global, args: &[Arg], look: &L) -> Result<Value, Memory>
+    requires { length args.now < 2 ^ 24 }
+    ensures { result ≡ Ok (answer (and_of (L.environment look.now) args.now)) }
 {
-    settled(list::and(alloc, args, look))
+    Ok(answer(list::and(args, look)))
 }
 
 /// OR: 1 where some number isn't 0, else 0; `#VALUE!` where there is none.
-pub fn or_fn<L: Look>(alloc: Global, args: &[Arg], look: &L) -> Result<Value, Memory>
-    ensures { IfOk result (λ v. v ≡ answer (or_of (L.environment look.now) args.now)) }
+pub fn or_fn<L: Look>(_alloc: Global, args: &[Arg], look: &L) -> Result<Value, Memory>
+    requires { length args.now < 2 ^ 24 }
+    ensures { result ≡ Ok (answer (or_of (L.environment look.now) args.now)) }
 {
-    settled(list::or(alloc, args, look))
+    Ok(answer(list::or(args, look)))
 }
 
 /// ABS: the absolute value; `#NUM!` outside 64 bits.
@@ -260,17 +265,17 @@ pub fn countif_fn<L: Look>(_alloc: Global, args: &[Arg], look: &L) -> Result<Val
 
 /// SUMIF: the exact total of the numbers at the places whose item is the same; `#NUM!` outside 64
 /// bits.
-pub fn sumif_fn<L: Look>(alloc: Global, args: &[Arg], look: &L) -> Result<Value, Memory>
-    ensures { IfOk result (λ v. v ≡ answer (sumif_of (L.environment look.now) args.now)) }
+pub fn sumif_fn<L: Look>(_alloc: Global, args: &[Arg], look: &L) -> Result<Value, Memory>
+    ensures { result ≡ Ok (answer (sumif_of (L.environment look.now) args.now)) }
 {
-    settled(table::sumif(alloc, args, look))
+    Ok(answer(table::sumif(args, look)))
 }
 
 /// SUMPRODUCT: the exact total of the products place by place; `#NUM!` outside 64 bits.
-pub fn sumproduct_fn<L: Look>(alloc: Global, args: &[Arg], look: &L) -> Result<Value, Memory>
-    ensures { IfOk result (λ v. v ≡ answer (sumproduct_of (L.environment look.now) args.now)) }
+pub fn sumproduct_fn<L: Look>(_alloc: Global, args: &[Arg], look: &L) -> Result<Value, Memory>
+    ensures { result ≡ Ok (answer (sumproduct_of (L.environment look.now) args.now)) }
 {
-    settled(table::sumproduct(alloc, args, look))
+    Ok(answer(table::sumproduct(args, look)))
 }
 
 /// ROWS: how many rows the shape has.

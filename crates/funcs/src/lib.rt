@@ -12,7 +12,9 @@ mod number;
 mod scalar;
 mod stop;
 mod table;
+mod tally;
 mod text;
+mod text_ref;
 mod value_ref;
 
 pub use arg::Arg;

@@ -3,7 +3,7 @@ ghost use Rattle.ss_base.specs.declared.types.CalcErr.{CalcErr};
 ghost use Rattle.sheet_value.specs.declared.value.Value.{Value};
 ghost use Rattle.funcs.specs.Steps.{answer};
 ghost use Rattle.funcs.specs.Refs.{owned_result};
-ghost use Rattle.funcs.specs.Stops.{Gives};
+ghost use Rattle.funcs.specs.Stops.{Yields};
 
 use crate::value_ref::ValueRef;
 use sheet_value::Value;
@@ -59,7 +59,7 @@ pub fn answer(outcome: Result<Value, CalcErr>) -> Value
 
 /// The same, unless memory was wanting.
 pub(crate) fn settled(outcome: Result<Value, Stop>) -> Result<Value, Memory>
-    ensures { (r : Result Value CalcErr) → Gives outcome r → IfOk result (λ v. v ≡ answer r) }
+    ensures { (r : Result Value CalcErr) → Yields outcome r → IfOk result (λ v. v ≡ answer r) }
 {
     match outcome {
         Ok(v) => Ok(v),

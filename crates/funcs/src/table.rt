@@ -1,23 +1,23 @@
-ghost use Rattle.std.specs.Prelude.{◌≡◌, ◌<◌, ◌≤◌, [], ◌∷◌, Ok, Err, None, find, length, slice_get, IfSome, OnOk, MatchOption, MatchResult};
+ghost use Rattle.std.specs.Prelude.{◌≡◌, ◌^◌, ◌+◌, ◌*ℤ◌, ◌<◌, ◌≤◌, [], ◌∷◌, Ok, Err, None, find, length, slice_get, IfOk, IfSome, OnOk, MatchOption, MatchResult};
 ghost use Rattle.std.specs.List.{position_from};
-ghost use Rattle.funcs.specs.Areas.{items, width, same, same_shape, sheet_numbers, appended};
+ghost use Rattle.funcs.specs.Areas.{items, width, same, same_shape, sheet_numbers};
 ghost use Rattle.funcs.specs.Args.{criterion};
+ghost use Rattle.funcs.specs.Numbers.{in_range};
 ghost use Rattle.funcs.specs.Refs.{owned, owned_result};
 ghost use Rattle.funcs.specs.Steps.{all_of};
-ghost use Rattle.funcs.specs.Stops.{Gives, Leaves};
+ghost use Rattle.funcs.specs.Tallies.{with_numbers};
 ghost use Rattle.funcs.specs.Tables.{index_of, exact_match, line, match_of, column, begins_with, looked_up, vlookup_of, countif_of, chosen, chosen_total, sumif_of, no_errors, number_or_zero, products, product_total, sumproduct_of, rows_of, columns_of};
 
 use crate::area::Area;
 use crate::arg::{Arg, number, value};
 use crate::arity::{four, one, three, two, two_or_three};
-use crate::list::{Counted, count_area, push_value, total};
+use crate::list::{Counted, count_area, with_value};
 use crate::number::{in_range, number_value, place};
-use crate::stop::Stop;
+use crate::tally::Tally;
 use crate::text::number_or_one;
 use crate::value_ref::ValueRef;
 use sheet_value::{Look, Value};
-use ss_base::{CalcErr, Seq};
-use std::alloc::Global;
+use ss_base::CalcErr;
 
 /// What items are compared with.
 fn criterion<'a, L: Look>(arg: &'a Arg, look: &'a L) -> Result<ValueRef<'a>, CalcErr>
@@ -170,61 +170,48 @@ fn same_shape<L: Look>(xs: &Area<'_, L>, ys: &Area<'_, L>) -> Result<(), CalcErr
     Err(CalcErr::BadKind)
 }
 
-/// Appends the number of an item, if the item beside it is the same; an error is the result.
-fn push_if_same(
-    found: &mut Seq<i64>,
+/// A tally with the number of an item, if the item beside it is the same; an error is the result.
+fn with_same(
+    found: Tally,
     v: ValueRef<'_>,
     x: ValueRef<'_>,
     w: ValueRef<'_>,
-) -> Result<(), Stop>
-    ensures { Leaves result found.new (appended found.old (sheet_numbers (chosen (owned x.entry) (owned v.entry ∷ []) (owned w.entry ∷ [])))) }
+) -> Result<Tally, CalcErr>
+    requires { found.count < 2 ^ 63 }
+    ensures numbers { result ≡ with_numbers found (sheet_numbers (chosen (owned x.entry) (owned v.entry ∷ []) (owned w.entry ∷ []))) }
+    ensures few { IfOk result (λ t. t.count ≤ found.count + 1) }
 {
     if v.is_same(x) {
-        return push_value(found, w);
+        return with_value(found, w);
     }
-    Ok(())
+    Ok(found)
 }
 
-/// Appends the numbers of the items whose items beside them are the same.
-fn push_chosen<L: Look>(
-    found: &mut Seq<i64>,
-    area: &Area<'_, L>,
-    x: ValueRef<'_>,
-    sums: &Area<'_, L>,
-) -> Result<(), Stop>
-    requires { length (items area.now) ≡ length (items sums.now) }
-    ensures { Leaves result found.new (appended found.old (sheet_numbers (chosen (owned x.entry) (items area.now) (items sums.now)))) }
-{
-    for i in 0..area.count() {
-        push_if_same(found, area.item(i), x, sums.item(i))?;
-    }
-    Ok(())
-}
-
-/// Their exact total.
+/// The exact total of the numbers of the items whose items beside them are the same.
 fn chosen_total<L: Look>(
-    alloc: Global,
     area: &Area<'_, L>,
     x: ValueRef<'_>,
     sums: &Area<'_, L>,
-) -> Result<Value, Stop>
+) -> Result<Value, CalcErr>
     requires { length (items area.now) ≡ length (items sums.now) }
-    ensures { Gives result (chosen_total (owned x.entry) area.now sums.now) }
+    ensures { result ≡ chosen_total (owned x.entry) area.now sums.now }
 {
-    let mut found = Seq::new(alloc);
-    push_chosen(&mut found, area, x, sums)?;
-    Ok(number_value(total(found.as_slice()))?)
+    let mut found = Tally::new();
+    for i in 0..area.count() {
+        found = with_same(found, area.item(i), x, sums.item(i))?;
+    }
+    number_value(found.total())
 }
 
-pub(crate) fn sumif<L: Look>(alloc: Global, args: &[Arg], look: &L) -> Result<Value, Stop>
-    ensures { Gives result (sumif_of (L.environment look.now) args.now) }
+pub(crate) fn sumif<L: Look>(args: &[Arg], look: &L) -> Result<Value, CalcErr>
+    ensures { result ≡ sumif_of (L.environment look.now) args.now }
 {
     let (a, x, s) = two_or_three(args)?;
     let area = Area::of(a, look)?;
     let x = criterion(x, look)?;
     let sums = Area::of(s.unwrap_or(a), look)?;
     same_shape(&area, &sums)?;
-    chosen_total(alloc, &area, x, &sums)
+    chosen_total(&area, x, &sums)
 }
 
 /// Whether no item is an error; the first one is the result.
@@ -249,41 +236,37 @@ fn number_or_zero(v: ValueRef<'_>) -> i64
     }
 }
 
-/// Appends the product of two items; one that has no 64 bits is the result.
-fn push_product(found: &mut Seq<i64>, v: ValueRef<'_>, w: ValueRef<'_>) -> Result<(), Stop>
-    ensures { Leaves result found.new (appended found.old (all_of (products (owned v.entry ∷ []) (owned w.entry ∷ [])))) }
+/// The product of two items; one that has no 64 bits is `#NUM!`.
+fn product(v: ValueRef<'_>, w: ValueRef<'_>) -> Result<i64, CalcErr>
+    ensures { result ≡ in_range (number_or_zero (owned v.entry) *ℤ number_or_zero (owned w.entry)) }
 {
-    let n = in_range(i128::from(number_or_zero(v)) * i128::from(number_or_zero(w)))?;
-    Ok(found.push(n)?)
+    in_range(i128::from(number_or_zero(v)) * i128::from(number_or_zero(w)))
 }
 
-/// Appends the products place by place; the first that has no 64 bits is the result.
-fn push_products<L: Look>(
-    found: &mut Seq<i64>,
-    xs: &Area<'_, L>,
-    ys: &Area<'_, L>,
-) -> Result<(), Stop>
-    requires { length (items xs.now) ≡ length (items ys.now) }
-    ensures { Leaves result found.new (appended found.old (all_of (products (items xs.now) (items ys.now)))) }
+/// A tally with the product of two items; one that has no 64 bits is the result.
+fn with_product(found: Tally, v: ValueRef<'_>, w: ValueRef<'_>) -> Result<Tally, CalcErr>
+    requires { found.count < 2 ^ 63 }
+    ensures numbers { result ≡ with_numbers found (all_of (products (owned v.entry ∷ []) (owned w.entry ∷ []))) }
+    ensures few { IfOk result (λ t. t.count ≤ found.count + 1) }
 {
+    let n = product(v, w)?;
+    Ok(found.with(n))
+}
+
+/// The exact total of the products place by place; the first that has no 64 bits is the result.
+fn product_total<L: Look>(xs: &Area<'_, L>, ys: &Area<'_, L>) -> Result<Value, CalcErr>
+    requires { length (items xs.now) ≡ length (items ys.now) }
+    ensures { result ≡ product_total (items xs.now) (items ys.now) }
+{
+    let mut found = Tally::new();
     for i in 0..xs.count() {
-        push_product(found, xs.item(i), ys.item(i))?;
+        found = with_product(found, xs.item(i), ys.item(i))?;
     }
-    Ok(())
+    number_value(found.total())
 }
 
-/// The exact total of the products.
-fn product_total<L: Look>(alloc: Global, xs: &Area<'_, L>, ys: &Area<'_, L>) -> Result<Value, Stop>
-    requires { length (items xs.now) ≡ length (items ys.now) }
-    ensures { Gives result (product_total (items xs.now) (items ys.now)) }
-{
-    let mut found = Seq::new(alloc);
-    push_products(&mut found, xs, ys)?;
-    Ok(number_value(total(found.as_slice()))?)
-}
-
-pub(crate) fn sumproduct<L: Look>(alloc: Global, args: &[Arg], look: &L) -> Result<Value, Stop>
-    ensures { Gives result (sumproduct_of (L.environment look.now) args.now) }
+pub(crate) fn sumproduct<L: Look>(args: &[Arg], look: &L) -> Result<Value, CalcErr>
+    ensures { result ≡ sumproduct_of (L.environment look.now) args.now }
 {
     let (x, y) = two(args)?;
     let xs = Area::of(x, look)?;
@@ -291,7 +274,7 @@ pub(crate) fn sumproduct<L: Look>(alloc: Global, args: &[Arg], look: &L) -> Resu
     same_shape(&xs, &ys)?;
     no_errors(&xs)?;
     no_errors(&ys)?;
-    product_total(alloc, &xs, &ys)
+    product_total(&xs, &ys)
 }
 
 pub(crate) fn rows<L: Look>(args: &[Arg], look: &L) -> Result<Value, CalcErr>

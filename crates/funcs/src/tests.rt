@@ -231,3 +231,18 @@ fn items_that_are_the_same(rt: HostRuntime) -> Result<(), Fail> {
     answers(&rt, al, Fun::Sumproduct, &args, Fault(CalcErr::BadNum))?;
     Ok(())
 }
+
+#[test]
+fn tests_in_the_order_of_their_definitions(rt: HostRuntime) -> Result<(), Fail> {
+    let al = rt.alloc();
+    let column = || range(0, 0, 2, 0);
+    let args = [text(al, b"nosuch")?, column(), number(5), number(0)];
+    answers(&rt, al, Fun::Vlookup, &args, Fault(CalcErr::Lost))?;
+    let args = [text(al, b"nosuch")?, range(0, 0, 1, 1), number(0)];
+    answers(&rt, al, Fun::Match, &args, Fault(CalcErr::BadKind))?;
+    let args = [column(), range(0, 0, 1, 0)];
+    answers(&rt, al, Fun::Sumproduct, &args, Fault(CalcErr::BadKind))?;
+    let args = [number(1), range(0, 0, 1, 0)];
+    answers(&rt, al, Fun::Iferror, &args, Number(1))?;
+    Ok(())
+}

@@ -1,20 +1,25 @@
-ghost use Rattle.std.specs.Prelude.{◌≡◌, take, drop};
+ghost use Rattle.std.specs.Prelude.{◌≡◌, take, drop, IfOk};
+ghost use Rattle.sheet_value.specs.Values.{text_value};
 ghost use Rattle.std.specs.Option.{option_copied};
 ghost use Rattle.funcs.specs.Args.{text, number_or_one};
-ghost use Rattle.funcs.specs.Stops.{Gives};
+ghost use Rattle.funcs.specs.Stops.{Yields};
 ghost use Rattle.funcs.specs.Texts.{len_of, text_and_count, left_of, right_of, mid_of, concatenate_of, exact_of};
 
 use crate::arg::{Arg, number, value};
 use crate::arity::{one, one_or_more, one_or_two, three, two};
 use crate::number::{byte_count, number_value, place, truth};
 use crate::stop::Stop;
+use crate::text_ref::TextRef;
 use sheet_value::{Look, Value, text_value};
-use ss_base::{CalcErr, Txt};
+use ss_base::{CalcErr, Memory, Txt};
 use std::alloc::Global;
 
+/// The most bytes that a text value has.
+const LONGEST: usize = 127;
+
 /// An argument as a text.
-fn text<L: Look>(alloc: Global, arg: &Arg, look: &L) -> Result<Txt, Stop>
-    ensures { Gives result (text (L.environment look.now) arg.now) }
+fn text<'a, L: Look>(alloc: Global, arg: &'a Arg, look: &'a L) -> Result<TextRef<'a>, Stop>
+    ensures { Yields result (text (L.environment look.now) arg.now) }
 {
     value(arg, look).text(alloc)
 }
@@ -45,8 +50,18 @@ fn back(bytes: &[u8], n: usize) -> &[u8]
     back
 }
 
+/// Some bytes as a value, copied only where a value may have so many.
+fn value_of_bytes(alloc: Global, bytes: &[u8]) -> Result<Value, Memory>
+    ensures { IfOk result (λ v. v ≡ text_value bytes.now) }
+{
+    if bytes.len() > LONGEST {
+        return Ok(Value::Err(CalcErr::BadKind));
+    }
+    Ok(text_value(Txt::new(alloc, bytes)?))
+}
+
 pub(crate) fn len<L: Look>(alloc: Global, args: &[Arg], look: &L) -> Result<Value, Stop>
-    ensures { Gives result (len_of (L.environment look.now) args.now) }
+    ensures { Yields result (len_of (L.environment look.now) args.now) }
 {
     let a = one(args)?;
     let t = text(alloc, a, look)?;
@@ -54,8 +69,12 @@ pub(crate) fn len<L: Look>(alloc: Global, args: &[Arg], look: &L) -> Result<Valu
 }
 
 /// A text, and how many of its bytes are wanted.
-fn text_and_count<L: Look>(alloc: Global, args: &[Arg], look: &L) -> Result<(Txt, usize), Stop>
-    ensures { Gives result (text_and_count (L.environment look.now) args.now) }
+fn text_and_count<'a, L: Look>(
+    alloc: Global,
+    args: &'a [Arg],
+    look: &'a L,
+) -> Result<(TextRef<'a>, usize), Stop>
+    ensures { Yields result (text_and_count (L.environment look.now) args.now) }
 {
     let (t, n) = one_or_two(args)?;
     let t = text(alloc, t, look)?;
@@ -65,23 +84,23 @@ fn text_and_count<L: Look>(alloc: Global, args: &[Arg], look: &L) -> Result<(Txt
 }
 
 pub(crate) fn left<L: Look>(alloc: Global, args: &[Arg], look: &L) -> Result<Value, Stop>
-    ensures { Gives result (left_of (L.environment look.now) args.now) }
+    ensures { Yields result (left_of (L.environment look.now) args.now) }
 {
     let (t, n) = text_and_count(alloc, args, look)?;
-    Ok(text_value(Txt::new(alloc, front(t.bytes(), n))?))
+    Ok(value_of_bytes(alloc, front(t.bytes(), n))?)
 }
 
 pub(crate) fn right<L: Look>(alloc: Global, args: &[Arg], look: &L) -> Result<Value, Stop>
-    ensures { Gives result (right_of (L.environment look.now) args.now) }
+    ensures { Yields result (right_of (L.environment look.now) args.now) }
 {
     let (t, n) = text_and_count(alloc, args, look)?;
     let bytes = t.bytes();
     let kept = back(bytes, bytes.len().saturating_sub(n));
-    Ok(text_value(Txt::new(alloc, kept)?))
+    Ok(value_of_bytes(alloc, kept)?)
 }
 
 pub(crate) fn mid<L: Look>(alloc: Global, args: &[Arg], look: &L) -> Result<Value, Stop>
-    ensures { Gives result (mid_of (L.environment look.now) args.now) }
+    ensures { Yields result (mid_of (L.environment look.now) args.now) }
 {
     let (t, s, n) = three(args)?;
     let t = text(alloc, t, look)?;
@@ -90,23 +109,25 @@ pub(crate) fn mid<L: Look>(alloc: Global, args: &[Arg], look: &L) -> Result<Valu
     let k = place(s)?;
     let m = byte_count(n)?;
     let kept = front(back(t.bytes(), k), m);
-    Ok(text_value(Txt::new(alloc, kept)?))
+    Ok(value_of_bytes(alloc, kept)?)
 }
 
 pub(crate) fn concatenate<L: Look>(alloc: Global, args: &[Arg], look: &L) -> Result<Value, Stop>
-    ensures { Gives result (concatenate_of (L.environment look.now) args.now) }
+    ensures { Yields result (concatenate_of (L.environment look.now) args.now) }
 {
     one_or_more(args)?;
     let mut joined = Vec::new(alloc);
     for a in args {
         let t = text(alloc, a, look)?;
-        joined.extend_from_slice(t.bytes())?;
+        // no more bytes than show that the text is too long
+        let room = (LONGEST + 1).saturating_sub(joined.len());
+        joined.extend_from_slice(front(t.bytes(), room))?;
     }
     Ok(text_value(Txt::from_vec(joined)))
 }
 
 pub(crate) fn exact<L: Look>(alloc: Global, args: &[Arg], look: &L) -> Result<Value, Stop>
-    ensures { Gives result (exact_of (L.environment look.now) args.now) }
+    ensures { Yields result (exact_of (L.environment look.now) args.now) }
 {
     let (s, t) = two(args)?;
     let s = text(alloc, s, look)?;

@@ -5,9 +5,10 @@ ghost use Rattle.sheet_value.specs.Values.{number_of, text_of};
 ghost use Rattle.sheet_value.specs.Environment.{seen_value};
 ghost use Rattle.funcs.specs.Areas.{same};
 ghost use Rattle.funcs.specs.Refs.{owned};
-ghost use Rattle.funcs.specs.Stops.{Gives};
+ghost use Rattle.funcs.specs.Stops.{Yields};
 
 use crate::stop::Stop;
+use crate::text_ref::TextRef;
 use sheet_value::{Seen, Value, to_text};
 use ss_base::{CalcErr, Memory, Txt};
 use std::alloc::Global;
@@ -55,13 +56,14 @@ impl<'a> ValueRef<'a> {
         }
     }
 
-    pub(crate) fn text(self, alloc: Global) -> Result<Txt, Stop>
-        ensures { Gives result (text_of (owned self.entry)) }
+    /// The value as a text. It takes memory for that of a number.
+    pub(crate) fn text(self, alloc: Global) -> Result<TextRef<'a>, Stop>
+        ensures { Yields result (text_of (owned self.entry)) }
     {
         match self {
-            ValueRef::Empty => Ok(Txt::new(alloc, b"")?),
-            ValueRef::Num(n) => Ok(to_text(alloc, &Value::Num(n))??),
-            ValueRef::Text(t) => Ok(t.copy()?),
+            ValueRef::Empty => Ok(TextRef::made(Txt::new(alloc, b"")?)),
+            ValueRef::Num(n) => Ok(TextRef::made(to_text(alloc, &Value::Num(n))??)),
+            ValueRef::Text(t) => Ok(TextRef::lent(t)),
             ValueRef::Err(e) => Err(Stop::Fault(e)),
         }
     }

@@ -8,7 +8,7 @@ pub returns-in-Match-clause-limit : goal.returns-in-Match-clause-limit
 returns-in-Match-clause-limit g c = λ short h. known_within _ _ c.match_fn.ensures (match-within (g.L.Look.environment c.args.look.now) c.args.args.now)
 
 pub returns-in-Sumif-clause-limit : goal.returns-in-Sumif-clause-limit
-returns-in-Sumif-clause-limit g c = λ short h. result_within _ _ c.sumif_fn.ensures (sumif-within (g.L.Look.environment c.args.look.now) c.args.args.now)
+returns-in-Sumif-clause-limit g c = λ short h. known_within _ _ c.sumif_fn.ensures (sumif-within (g.L.Look.environment c.args.look.now) c.args.args.now)
 
 pub returns-in-If-clause-limit : goal.returns-in-If-clause-limit
 returns-in-If-clause-limit g c =

@@ -1,7 +1,8 @@
 use Rattle.std.proofs.Common.{◌≡◌, map, take, drop}
 use Rattle.funcs.specs.Steps.{all_of}
 use Rattle.funcs.specs.Args.{no_error}
-use Rattle.funcs.specs.Areas.{items, appended}
+use Rattle.funcs.specs.Areas.{items}
+use Rattle.funcs.proofs.Found.{appended}
 use Rattle.funcs.specs.Tables.{no_errors}
 use Rattle.funcs.proofs.table.no_errors.Given as goal
 

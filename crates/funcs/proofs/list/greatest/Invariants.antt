@@ -1,6 +1,0 @@
-use Rattle.std.proofs.Common.{◌≡◌, take, fold}
-use Rattle.std.specs.Int.{int_max}
-use Rattle.funcs.proofs.list.greatest.Given as goal
-
-abbrev pub invariant-loop-n : goal.invariant-loop-n
-invariant-loop-n l = l.greatest ≡ fold int_max l.initial.greatest (take l.n-index l.rest)

@@ -1,6 +1,0 @@
-use Rattle.std.proofs.Common.{◌≡◌, take, fold}
-use Rattle.std.specs.Int.{int_min}
-use Rattle.funcs.proofs.list.least.Given as goal
-
-abbrev pub invariant-loop-n : goal.invariant-loop-n
-invariant-loop-n l = l.least ≡ fold int_min l.initial.least (take l.n-index l.rest)
