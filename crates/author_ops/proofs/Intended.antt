@@ -11,13 +11,11 @@ use Rattle.formula_read.specs.Readings.{Reading, formula, stops}
 use Rattle.formula_read.proofs.Readings.{reading}
 use Rattle.sheet_ops.specs.declared.content.Content.{Content}
 use Rattle.sheet_ops.specs.declared.content.Content.TheVariants as content
-use Rattle.sheet_ops.specs.declared.edit.Edit.{Edit}
-use Rattle.sheet_ops.specs.declared.edit.Edit.TheVariants as edit
 use Rattle.sheet_ops.specs.declared.edit.EditErr.{EditErr}
 use Rattle.sheet_ops.specs.declared.edit.EditErr.TheVariants as fault
 use Rattle.sheet_ops.specs.declared.operation.Intent.{Intent}
 use Rattle.sheet_ops.specs.Fits.{IntentFits, ContentFits, CellFits, RangeFits, IsInside}
-use Rattle.sheet_ops.specs.Lines.{visible_places}
+use Rattle.marked_lines.specs.Marks.{visible_places}
 use Rattle.sheet_ops.specs.Placed.{PlacedSheet, placed_size}
 use Rattle.sheet_ops.specs.Numerals.{is_numeral}
 use Rattle.sheet_ops.specs.Weights.{weight_of_intent}
@@ -25,7 +23,7 @@ use Rattle.sheet_ops.proofs.References.{images_each}
 use Rattle.sheet_ops.proofs.Visible.{visible_below}
 use Rattle.author_ops.specs.Numbers.{number_of, number_front}
 use Rattle.author_ops.specs.Entries.{pair_seen, typed, formula_entered, number_entered, entered}
-use Rattle.author_ops.specs.Edits.{place_seen, write_one, unless_heavy, written_at, intended_by}
+use Rattle.author_ops.specs.Edits.{place_seen, write_one, unless_heavy, written_at}
 
 -- both of two positions
 pub both_below : (first last n : ℕ) (a b : Option ℕ) (x y : ℕ) → ◌≡◌ {A = Option (ℕ × ℕ)} (option_and_then (λ p. option_map (λ q. (p, q)) b) a) (Some (x, y)) →
@@ -59,7 +57,7 @@ module _ (P : PlacedSheet) where
   one_of true x y n h k = h
   one_of false x y n h k = k
 
-  between_inside : (a b : Spot) → CellFits size a → CellFits size b → RangeFits size (range_between a b)
+  pub between_inside : (a b : Spot) → CellFits size a → CellFits size b → RangeFits size (range_between a b)
   between_inside a b h k = (
     (one_of (nat_le a.row b.row) a.row b.row (length P.rows) h.0 k.0, one_of (nat_le a.col b.col) a.col b.col (length P.cols) h.1 k.1),
     (one_of (nat_le a.row b.row) b.row a.row (length P.rows) k.0 h.0, one_of (nat_le a.col b.col) b.col a.col (length P.cols) k.1 h.1),
@@ -111,7 +109,7 @@ module _ (P : PlacedSheet) where
       by_tests false false false e = text_inside (b ∷ bs) c e
 
   -- ---- writes
-  light_fits : (op op' : Intent) → unless_heavy op ≡ Ok op' → IntentFits size op → IntentFits size op'
+  pub light_fits : (op op' : Intent) → unless_heavy op ≡ Ok op' → IntentFits size op → IntentFits size op'
   light_fits op op' e fits = by_weight (nat_lt 512 (weight_of_intent op)) e
     where
       by_weight : (b : Bool) → ◌≡◌ {A = Result Intent EditErr} (cond b (Err (fault.Heavy (min (weight_of_intent op) (2 ^ 32 - 1)))) (Ok op)) (Ok op') → IntentFits size op'
@@ -130,6 +128,9 @@ module _ (P : PlacedSheet) where
   place_inside spot (x, y) e =
       both_below (length P.rows) (length P.cols) (length P.rows) (slice_get (visible_places P.rows) spot.row) (slice_get (visible_places P.cols) spot.col) x y e (visible_below P.rows spot.row) (visible_below P.cols spot.col)
 
-pub intended-fits : (P : PlacedSheet) (e : Edit) (op : Intent) → intended_by P.rows P.cols e ≡ Ok op → IntentFits (placed_size P) op
-intended-fits P (edit.Set spot entry) op e = written_fits P (place_seen P.rows P.cols spot) (entered P.rows P.cols entry) op e (place_inside P spot) (entered_inside P entry)
-intended-fits P (edit.Clear spot) op e = written_fits P (place_seen P.rows P.cols spot) (Ok content.Empty) op e (place_inside P spot) (λ c k. let same : content.Empty ≡ c = cc in subst (λ (x : Content). ContentFits (placed_size P) x) same tt)
+pub set-fits : (P : PlacedSheet) (spot : Spot) (entry : List ℕ) (op : Intent) → written_at (place_seen P.rows P.cols spot) (entered P.rows P.cols entry) ≡ Ok op → IntentFits (placed_size P) op
+set-fits P spot entry op e = written_fits P (place_seen P.rows P.cols spot) (entered P.rows P.cols entry) op e (place_inside P spot) (entered_inside P entry)
+
+pub clear-fits : (P : PlacedSheet) (spot : Spot) (op : Intent) → written_at (place_seen P.rows P.cols spot) (Ok content.Empty) ≡ Ok op → IntentFits (placed_size P) op
+clear-fits P spot op e =
+    written_fits P (place_seen P.rows P.cols spot) (Ok content.Empty) op e (place_inside P spot) (λ c k. let same : content.Empty ≡ c = cc in subst (λ (x : Content). ContentFits (placed_size P) x) same tt)

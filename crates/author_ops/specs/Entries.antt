@@ -8,7 +8,7 @@ use Rattle.sheet_ops.specs.declared.content.Content.{Content}
 use Rattle.sheet_ops.specs.declared.content.Content.TheVariants as content
 use Rattle.sheet_ops.specs.declared.edit.EditErr.{EditErr}
 use Rattle.sheet_ops.specs.declared.edit.EditErr.TheVariants as fault
-use Rattle.sheet_ops.specs.Lines.{visible_places}
+use Rattle.marked_lines.specs.Marks.{visible_places}
 use Rattle.sheet_ops.specs.Numerals.{is_numeral}
 use Rattle.author_ops.specs.Numbers.{number_of, number_front}
 

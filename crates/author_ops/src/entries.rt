@@ -1,4 +1,5 @@
 ghost use Rattle.std.specs.Prelude.{◌≡◌, ◌≢◌, ◌<◌, ◌^◌, true, length, Ok, Err, IfOk, IfErr};
+ghost use Rattle.sheet_grid.specs.Values.{placed_in};
 ghost use Rattle.sheet_ops.specs.Numerals.{is_numeral};
 ghost use Rattle.author_ops.specs.Entries.{entered, formula_entered, number_entered, typed};
 ghost use Rattle.formula_read.proofs.Readings.{reading};
@@ -14,8 +15,8 @@ use std::alloc::Global;
 /// What an entry puts into its cell.
 pub fn content_of(alloc: Global, sheet: &Sheet, entry: &Txt) -> Result<Content, EditErr>
     requires { length entry.now < 2 ^ 24 }
-    ensures content { IfOk result (λ c. entered sheet.now.rows sheet.now.cols entry.now ≡ Ok c) }
-    ensures cause { IfErr result (λ e. e ≢ EditErr.Memory → entered sheet.now.rows sheet.now.cols entry.now ≡ Err e) }
+    ensures content { IfOk result (λ c. entered (placed_in sheet.now).rows (placed_in sheet.now).cols entry.now ≡ Ok c) }
+    ensures cause { IfErr result (λ e. e ≢ EditErr.Memory → entered (placed_in sheet.now).rows (placed_in sheet.now).cols entry.now ≡ Err e) }
 {
     match entry.bytes() {
         [b'=', ..] => formula_of(alloc, sheet, entry),
@@ -50,7 +51,7 @@ struct Typed<'a> {
 }
 
 impl Remap for Typed<'_> {
-    ghost images = { λ t. typed t.sheet.now.rows t.sheet.now.cols };
+    ghost images = { λ t. typed (placed_in t.sheet.now).rows (placed_in t.sheet.now).cols };
 
     fn rec_row(&self, row: u32) -> Option<u32> {
         self.sheet.row_at(row)
@@ -76,8 +77,8 @@ impl Remap for Typed<'_> {
 /// A formula as it was typed, its references by positions.
 fn formula_of(alloc: Global, sheet: &Sheet, entry: &Txt) -> Result<Content, EditErr>
     requires { length entry.now < 2 ^ 24 }
-    ensures content { IfOk result (λ c. formula_entered sheet.now.rows sheet.now.cols (reading entry.now) ≡ Ok c) }
-    ensures cause { IfErr result (λ e. e ≢ EditErr.Memory → formula_entered sheet.now.rows sheet.now.cols (reading entry.now) ≡ Err e) }
+    ensures content { IfOk result (λ c. formula_entered (placed_in sheet.now).rows (placed_in sheet.now).cols (reading entry.now) ≡ Ok c) }
+    ensures cause { IfErr result (λ e. e ≢ EditErr.Memory → formula_entered (placed_in sheet.now).rows (placed_in sheet.now).cols (reading entry.now) ≡ Err e) }
 {
     // No position is above the size.
     let _size = sheet.size();

@@ -19,7 +19,7 @@ use Rattle.funcs.specs.Args.{AreWithinLimit}
 use Rattle.funcs.specs.Numbers.{number_value, is_zero, divisor}
 use Rattle.funcs.specs.Steps.{answer}
 use Rattle.funcs.proofs.Limits.{steps, number-within, truth-within, text_value-within, cell-within, call-within}
-use Rattle.cell_eval.specs.Operators.{signed, prefixed, numbers, whole_quotient, power_of, holds, compared, combined}
+use Rattle.cell_eval.specs.Operators.{signed, prefixed, both_numbers, whole_quotient, power_of, holds, compared, combined}
 use Rattle.cell_eval.specs.Meaning.{argument, meaning, arguments, or_zero, formula_value}
 
 prefixed-within : (op : PreOp) (v : Value) → IsWithinLimit (answer (prefixed op v))
@@ -40,11 +40,11 @@ compared-within : (op : BinOp) (a b : Value) → IsWithinLimit (answer (compared
 compared-within op a b = steps (comparison a b) _ (λ order _. truth-within (holds op order))
 
 combined-within : (op : BinOp) (a b : Value) → IsWithinLimit (answer (combined op a b))
-combined-within Pow a b = steps (numbers a b) _ (λ p _. power-within p.0 p.1)
-combined-within Mul a b = steps (numbers a b) _ (λ p _. number-within (p.0 *ℤ p.1))
-combined-within Div a b = steps (numbers a b) _ (λ p _. steps (divisor p.1) _ (λ d _. quotient-within p.0 d))
-combined-within Add a b = steps (numbers a b) _ (λ p _. number-within (p.0 +ℤ p.1))
-combined-within Sub a b = steps (numbers a b) _ (λ p _. number-within (p.0 -ℤ p.1))
+combined-within Pow a b = steps (both_numbers a b) _ (λ p _. power-within p.0 p.1)
+combined-within Mul a b = steps (both_numbers a b) _ (λ p _. number-within (p.0 *ℤ p.1))
+combined-within Div a b = steps (both_numbers a b) _ (λ p _. steps (divisor p.1) _ (λ d _. quotient-within p.0 d))
+combined-within Add a b = steps (both_numbers a b) _ (λ p _. number-within (p.0 +ℤ p.1))
+combined-within Sub a b = steps (both_numbers a b) _ (λ p _. number-within (p.0 -ℤ p.1))
 combined-within Join a b = steps (text_of a) _ (λ s _. steps (text_of b) _ (λ t _. text_value-within (s ++ t)))
 combined-within Eq a b = compared-within Eq a b
 combined-within Ne a b = compared-within Ne a b

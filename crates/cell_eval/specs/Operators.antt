@@ -23,24 +23,24 @@ abbrev pub prefixed : PreOp → Value → Result Value CalcErr
 prefixed op v = and_then (number_of v) (λ n. number_value (signed op n))
 
 -- both operands as numbers, the left one first
-abbrev pub numbers : Value → Value → Result (ℤ × ℤ) CalcErr
-numbers a b = and_then (number_of a) (λ m. and_then (number_of b) (λ n. Ok (m, n)))
+abbrev pub both_numbers : Value → Value → Result (ℤ × ℤ) CalcErr
+both_numbers a b = and_then (number_of a) (λ m. and_then (number_of b) (λ n. Ok (m, n)))
 
 abbrev pub sum : Value → Value → Result Value CalcErr
-sum a b = and_then (numbers a b) (λ p. number_value (p.0 +ℤ p.1))
+sum a b = and_then (both_numbers a b) (λ p. number_value (p.0 +ℤ p.1))
 
 abbrev pub difference : Value → Value → Result Value CalcErr
-difference a b = and_then (numbers a b) (λ p. number_value (p.0 -ℤ p.1))
+difference a b = and_then (both_numbers a b) (λ p. number_value (p.0 -ℤ p.1))
 
 abbrev pub product : Value → Value → Result Value CalcErr
-product a b = and_then (numbers a b) (λ p. number_value (p.0 *ℤ p.1))
+product a b = and_then (both_numbers a b) (λ p. number_value (p.0 *ℤ p.1))
 
 -- a quotient that isn't whole is `#NUM!`
 abbrev pub whole_quotient : ℤ → ℤ → Result Value CalcErr
 whole_quotient m d = if is_zero (int_rem m d) then number_value (int_div m d) else Err fault.BadNum
 
 abbrev pub quotient : Value → Value → Result Value CalcErr
-quotient a b = and_then (numbers a b) (λ p. and_then (divisor p.1) (λ d. whole_quotient p.0 d))
+quotient a b = and_then (both_numbers a b) (λ p. and_then (divisor p.1) (λ d. whole_quotient p.0 d))
 
 -- a negative exponent is `#NUM!`, and any number to the power 0 is 1
 abbrev pub power_of : ℤ → ℤ → Result Value CalcErr
@@ -48,7 +48,7 @@ power_of m (pos n) = number_value (int_pow m n)
 power_of m (negsuc n) = Err fault.BadNum
 
 abbrev pub power : Value → Value → Result Value CalcErr
-power a b = and_then (numbers a b) (λ p. power_of p.0 p.1)
+power a b = and_then (both_numbers a b) (λ p. power_of p.0 p.1)
 
 -- both operands as texts, one behind the other
 abbrev pub joined : Value → Value → Result Value CalcErr

@@ -9,6 +9,3 @@ mod stack;
 
 pub use counter::Steps;
 pub use evaluation::eval;
-
-#[cfg(test)]
-mod tests;

@@ -1,6 +1,6 @@
 ghost use Rattle.std.specs.Prelude.{◌≡◌, ◌≢◌, pos, IfOk};
 ghost use Rattle.funcs.specs.Steps.{answer};
-ghost use Rattle.cell_eval.specs.Operators.{prefixed, numbers, power, product, whole_quotient, quotient, sum, difference, joined, holds, compared, combined};
+ghost use Rattle.cell_eval.specs.Operators.{prefixed, both_numbers, power, product, whole_quotient, quotient, sum, difference, joined, holds, compared, combined};
 
 use formula_tree::{BinOp, PreOp};
 use funcs::{answer, divisor, number_value, truth};
@@ -39,8 +39,8 @@ pub(crate) fn combined(alloc: Global, op: BinOp, a: &Value, b: &Value) -> Result
 }
 
 /// Both operands as numbers, the left one first.
-fn numbers(a: &Value, b: &Value) -> Result<(i64, i64), CalcErr>
-    ensures { result ≡ numbers a.now b.now }
+fn both_numbers(a: &Value, b: &Value) -> Result<(i64, i64), CalcErr>
+    ensures { result ≡ both_numbers a.now b.now }
 {
     let m = to_num(a)?;
     let n = to_num(b)?;
@@ -50,7 +50,7 @@ fn numbers(a: &Value, b: &Value) -> Result<(i64, i64), CalcErr>
 fn power(a: &Value, b: &Value) -> Result<Value, CalcErr>
     ensures { result ≡ power a.now b.now }
 {
-    let (m, n) = numbers(a, b)?;
+    let (m, n) = both_numbers(a, b)?;
     if n < 0 {
         return Err(CalcErr::BadNum);
     }
@@ -63,14 +63,14 @@ fn power(a: &Value, b: &Value) -> Result<Value, CalcErr>
 fn product(a: &Value, b: &Value) -> Result<Value, CalcErr>
     ensures { result ≡ product a.now b.now }
 {
-    let (m, n) = numbers(a, b)?;
+    let (m, n) = both_numbers(a, b)?;
     number_value(i128::from(m) * i128::from(n))
 }
 
 fn quotient(a: &Value, b: &Value) -> Result<Value, CalcErr>
     ensures { result ≡ quotient a.now b.now }
 {
-    let (m, n) = numbers(a, b)?;
+    let (m, n) = both_numbers(a, b)?;
     let d = divisor(n)?;
     whole_quotient(m, d)
 }
@@ -91,14 +91,14 @@ fn whole_quotient(m: i64, d: i64) -> Result<Value, CalcErr>
 fn sum(a: &Value, b: &Value) -> Result<Value, CalcErr>
     ensures { result ≡ sum a.now b.now }
 {
-    let (m, n) = numbers(a, b)?;
+    let (m, n) = both_numbers(a, b)?;
     number_value(i128::from(m) + i128::from(n))
 }
 
 fn difference(a: &Value, b: &Value) -> Result<Value, CalcErr>
     ensures { result ≡ difference a.now b.now }
 {
-    let (m, n) = numbers(a, b)?;
+    let (m, n) = both_numbers(a, b)?;
     number_value(i128::from(m) - i128::from(n))
 }
 

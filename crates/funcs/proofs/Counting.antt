@@ -1,6 +1,6 @@
 -- Counting the items that pass a test.
-use Rattle.std.proofs.Common.{◌≡◌, ℕ, ◌+◌, ◌*◌, ◌<◌, ◌≤◌, Bool, true, false, List, [], ◌∷◌, ◌++◌, length, take, get_or, map, Result, Ok, Err, refl, sym, ap, ◌∙◌, count_by, cond, add-zero, arith}
-use Rattle.std.specs.Prelude.{flat_map, slice_get, Option, Some, None, sum_by}
+use Rattle.std.proofs.Common.{◌≡◌, ℕ, ◌+◌, ◌<◌, ◌≤◌, Bool, true, false, List, [], ◌∷◌, ◌++◌, length, take, get_or, refl, sym, ap, ◌∙◌, count_by, cond, add-zero, arith}
+use Rattle.std.specs.Prelude.{flat_map, slice_get, Some}
 use Rattle.std.proofs.lemmas.Option.{slice_get_within, get_or_from_slice_get}
 use mir.Val.{bool_byte}
 use Rattle.std.proofs.lemmas.List.{take_more, append-nil}

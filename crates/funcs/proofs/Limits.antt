@@ -1,9 +1,8 @@
 -- No result has a text of more than 127 bytes.
-use Rattle.std.proofs.Common.{◌≡◌, ℕ, zero, suc, ℤ, ◌≤◌, Bool, true, false, cond, List, [], ◌∷◌, length, map, Result, Ok, Err, refl, sym, subst, arith}
+use Rattle.std.proofs.Common.{◌≡◌, ℕ, zero, suc, ℤ, Bool, true, false, cond, List, [], ◌∷◌, length, map, Result, Ok, Err, refl, sym, subst, arith}
 use Rattle.std.specs.Prelude.{◌-◌, ◌-ℤ◌, ◌*ℤ◌, pos, int_div, unsigned_abs, not, take, drop, nat_le, is_some, slice_get, find, ok_or, unwrap_or, option_map, Option, Some, None, IfOk}
 use Rattle.std.specs.List.{AllByRecursion, position_from, flat_map, list_all, list_any}
 use Rattle.std.specs.Str.{bytes_eq}
-use Rattle.std.specs.Option.{option_and_then}
 use Rattle.std.proofs.lemmas.Bool.Decides.{nat_tests}
 use Rattle.ss_base.specs.declared.types.Memory.{Memory}
 use Rattle.ss_base.specs.declared.types.CalcErr.{CalcErr}

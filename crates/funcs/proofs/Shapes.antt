@@ -1,15 +1,14 @@
 -- Cells and ranges as lists of items.
-use Rattle.std.proofs.Common.{◌≡◌, ℕ, zero, suc, ◌+◌, ◌*◌, ◌/◌, ◌%◌, ◌^◌, ◌<◌, ◌≤◌, List, [], ◌∷◌, ◌++◌, length, map, Result, Ok, Err, refl, sym, ap, ◌∙◌, subst, arith, length-append}
-use Rattle.std.specs.Prelude.{flat_map, slice_get, ok_or, Option, Some, None, nat_lt, false}
+use Rattle.std.proofs.Common.{◌≡◌, ℕ, zero, suc, ◌+◌, ◌*◌, ◌/◌, ◌%◌, ◌^◌, ◌<◌, ◌≤◌, List, [], ◌∷◌, ◌++◌, length, map, Ok, Err, refl, sym, ap, ◌∙◌, subst, arith, length-append}
+use Rattle.std.specs.Prelude.{slice_get, ok_or, Option, Some, None}
 use Rattle.std.specs.Option.{option_and_then}
 use Rattle.std.proofs.lemmas.Option.{slice_get_past}
 use Rattle.std.proofs.Math.Nat.{suc-mul, mul-le-mul, div-lt_iff_lt-mul, div-le_self}
 use Rattle.std.proofs.lemmas.Nat.{div-add-mod'}
 use Rattle.ss_base.specs.declared.types.Size.{Size}
-use Rattle.ss_base.specs.declared.types.Span.{Span}
 use Rattle.ss_base.specs.declared.types.CalcErr.TheVariants as fault
 use Rattle.sheet_value.specs.declared.value.Value.{Value}
-use Rattle.sheet_value.specs.Environment.{Environment, range_shape, size_of_lines}
+use Rattle.sheet_value.specs.Environment.{Environment, size_of_lines}
 use Rattle.funcs.specs.declared.area.Place.{Place}
 use Rattle.funcs.specs.declared.area.Place.TheVariants as place
 use Rattle.funcs.specs.Areas.{items, width, item_at, range_values}

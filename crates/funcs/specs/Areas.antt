@@ -1,5 +1,5 @@
 -- Cells and ranges as arguments, and lists of items.
-use Rattle.std.specs.Prelude.{ℕ, ℤ, ◌==◌, ◌&&◌, ◌||◌, nat_lt, bytes_eq, if◌then◌else◌, is_some, Bool, true, false, List, [], ◌∷◌, ◌++◌, length, map, flat_map, filter_map, slice_get, ok_or, option_map, option_and_then, Option, None, Some, Result, Ok, Err}
+use Rattle.std.specs.Prelude.{ℕ, ℤ, ◌==◌, ◌&&◌, bytes_eq, if◌then◌else◌, is_some, Bool, false, List, [], ◌∷◌, length, map, flat_map, filter_map, slice_get, ok_or, option_map, option_and_then, Option, None, Some, Result, Ok, Err}
 use Rattle.std.specs.Ordering.{int_eq}
 use Rattle.ss_base.specs.declared.types.Span.{Span}
 use Rattle.ss_base.specs.declared.types.CalcErr.{CalcErr}
@@ -10,7 +10,7 @@ use Rattle.sheet_value.specs.Values.{number_of}
 use Rattle.sheet_value.specs.Environment.{Environment, cell_value, range_shape}
 use Rattle.funcs.specs.declared.arg.Arg.{Arg}
 use Rattle.funcs.specs.declared.arg.Arg.TheVariants as arg
-use Rattle.funcs.specs.Steps.{and_then, all_of}
+use Rattle.funcs.specs.Steps.{all_of}
 
 -- the values of a range row by row, of its visible cells
 abbrev pub range_values : Environment → Span → List (List Value)

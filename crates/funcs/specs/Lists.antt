@@ -1,5 +1,5 @@
 -- The functions of lists of items.
-use Rattle.std.specs.Prelude.{ℕ, ℤ, pos, not, fold, count_by, List, [], ◌∷◌, Result, Ok}
+use Rattle.std.specs.Prelude.{ℤ, pos, not, fold, count_by, List, [], ◌∷◌, Result, Ok}
 use Rattle.std.specs.List.{list_any, list_all}
 use Rattle.std.specs.Int.{int_min, int_max}
 use Rattle.ss_base.specs.declared.types.CalcErr.{CalcErr}

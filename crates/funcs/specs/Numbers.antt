@@ -1,6 +1,5 @@
 -- Numbers as values.
 use Rattle.std.specs.Prelude.{ℕ, suc, ◌/◌, ◌^◌, ℤ, pos, negsuc, ◌+ℤ◌, neg_ℤ, nat_lt, if◌then◌else◌, fold, Bool, true, false, List, Result, Ok, Err}
-use Rattle.std.specs.Int.{int_min, int_max}
 use Rattle.ss_base.specs.declared.types.CalcErr.{CalcErr}
 use Rattle.ss_base.specs.declared.types.CalcErr.TheVariants as fault
 use Rattle.sheet_value.specs.declared.value.Value.{Value}

@@ -1,5 +1,5 @@
 -- How the code keeps a cell or a range.
-use Rattle.std.specs.Prelude.{◌≡◌, ◌≤◌, List, [], ◌∷◌, Option, Some}
+use Rattle.std.specs.Prelude.{◌≡◌, ◌≤◌, List, [], ◌∷◌, Some}
 use Rattle.ss_base.specs.declared.types.Size.{Size}
 use Rattle.sheet_value.specs.declared.value.Value.{Value}
 use Rattle.sheet_value.specs.Environment.{Environment, range_shape}

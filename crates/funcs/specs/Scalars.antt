@@ -1,5 +1,5 @@
 -- The functions of numbers and single values.
-use Rattle.std.specs.Prelude.{ℕ, ℤ, pos, ◌-ℤ◌, ◌*ℤ◌, unsigned_abs, int_div, if◌then◌else◌, ok_or, slice_get, Bool, true, false, List, Option, None, Some, Result, Ok, Err}
+use Rattle.std.specs.Prelude.{ℤ, pos, ◌-ℤ◌, ◌*ℤ◌, unsigned_abs, int_div, if◌then◌else◌, ok_or, slice_get, Bool, true, false, List, Option, None, Some, Result, Ok, Err}
 use Rattle.std.specs.Int.{int_signum}
 use Rattle.ss_base.specs.declared.types.CalcErr.{CalcErr}
 use Rattle.ss_base.specs.declared.types.CalcErr.TheVariants as fault

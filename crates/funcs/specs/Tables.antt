@@ -1,5 +1,5 @@
 -- The functions of cells and ranges.
-use Rattle.std.specs.Prelude.{ℕ, suc, ℤ, pos, ◌*ℤ◌, ◌==◌, ◌||◌, nat_lt, if◌then◌else◌, count_by, filter, find, zip, map, ok_or, option_map, unwrap_or, slice_get, Bool, true, false, List, [], ◌∷◌, length, Result, Ok, Err}
+use Rattle.std.specs.Prelude.{ℕ, ℤ, pos, ◌*ℤ◌, ◌==◌, ◌||◌, nat_lt, if◌then◌else◌, count_by, filter, find, zip, map, ok_or, option_map, unwrap_or, slice_get, Bool, false, List, [], ◌∷◌, length, Result, Ok, Err}
 use Rattle.std.specs.List.{position_from}
 use Rattle.ss_base.specs.declared.types.CalcErr.{CalcErr}
 use Rattle.ss_base.specs.declared.types.CalcErr.TheVariants as fault

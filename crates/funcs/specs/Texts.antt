@@ -1,5 +1,5 @@
 -- The functions of texts.
-use Rattle.std.specs.Prelude.{ℕ, pos, ◌-◌, bytes_eq, List, length, take, drop, map, flat_map, Result, Ok, Err}
+use Rattle.std.specs.Prelude.{ℕ, pos, ◌-◌, bytes_eq, List, length, take, drop, map, flat_map, Result, Ok}
 use Rattle.ss_base.specs.declared.types.CalcErr.{CalcErr}
 use Rattle.sheet_value.specs.declared.value.Value.{Value}
 use Rattle.sheet_value.specs.Values.{text_value}

@@ -13,11 +13,16 @@ command_said (form.Sheet size) = command.Sheet size
 command_said (form.Site name) = command.Site name.now
 command_said (form.Set name spot entry) = command.Edit name.now (edit.Set spot entry.now)
 command_said (form.Clear name spot) = command.Edit name.now (edit.Clear spot)
+command_said (form.InsRow name row) = command.Edit name.now (edit.InsRow row)
+command_said (form.InsCol name col) = command.Edit name.now (edit.InsCol col)
+command_said (form.DelRow name row) = command.Edit name.now (edit.DelRow row)
+command_said (form.DelCol name col) = command.Edit name.now (edit.DelCol col)
 command_said (form.Push name count) = command.Push name.now count
 command_said (form.Pull name count) = command.Pull name.now count
 command_said form.PushAll = command.PushAll
 command_said form.PullAll = command.PullAll
 command_said (form.Show name) = command.Show name.now
+command_said form.ShowServer = command.ShowServer
 command_said form.End = command.End
 
 abbrev pub said : Option Form → Option Command

@@ -37,32 +37,50 @@ pub data LineTurn : Type 0 where
   goes : Declared → Command → LineTurn
   stops : Stop → LineTurn
 
--- a command that wants no site, or a site that is declared
-abbrev pub by_all : Declared → ℕ → Command → LineTurn
-by_all d n c = if d.sheet then goes (record d { closed = true }) c else stops (refused_at n kind.Sheet)
+-- the kind of fault of a line that wants the sheet, and of one that names a site
+abbrev pub without_sheet : Declared → Option ScriptKind
+without_sheet d = if d.sheet then None else Some kind.Sheet
 
-abbrev pub by_site : Declared → ℕ → List ℕ → Command → LineTurn
-by_site d n name c =
-    if not d.sheet then stops (refused_at n kind.Sheet)
-    else if is_declared d name then goes (record d { closed = true }) c
-    else stops (refused_at n kind.Site)
+abbrev pub without_site : Declared → List ℕ → Option ScriptKind
+without_site d name =
+    if not d.sheet then Some kind.Sheet
+    else if is_declared d name then None
+    else Some kind.Site
+
+-- the first kind of fault that fits a command, by what the lines before it have declared
+abbrev pub fault_of : Declared → Command → Option ScriptKind
+fault_of d command.Note = None
+fault_of d (command.Sheet size) = if d.sheet then Some kind.Sheet else None
+fault_of d (command.Site name) =
+    if not d.sheet then Some kind.Sheet
+    else if d.closed || (is_declared d name || nat_lt 7 (length d.sites)) then Some kind.Site
+    else None
+fault_of d (command.Edit name edit) = without_site d name
+fault_of d (command.Push name count) = without_site d name
+fault_of d (command.Pull name count) = without_site d name
+fault_of d (command.Show name) = without_site d name
+fault_of d command.ShowServer = without_sheet d
+fault_of d command.PushAll = without_sheet d
+fault_of d command.PullAll = without_sheet d
+fault_of d command.End = without_sheet d
+
+-- what is declared after a command
+abbrev pub declared_with : Declared → Command → Declared
+declared_with d command.Note = d
+declared_with d (command.Sheet size) = record d { sheet = true }
+declared_with d (command.Site name) = record d { sites = d.sites ++ name ∷ [] }
+declared_with d _ = record d { closed = true }
+
+abbrev pub turn_accepted : Declared → Command → LineTurn
+turn_accepted d command.End = stops ended
+turn_accepted d c = goes (declared_with d c) c
 
 -- the turn of a command on line n
 abbrev pub turn_of : Declared → ℕ → Command → LineTurn
-turn_of d n command.Note = goes d command.Note
-turn_of d n (command.Sheet size) =
-    if d.sheet then stops (refused_at n kind.Sheet) else goes (record d { sheet = true }) (command.Sheet size)
-turn_of d n (command.Site name) =
-    if not d.sheet then stops (refused_at n kind.Sheet)
-    else if d.closed || (is_declared d name || nat_lt 7 (length d.sites)) then stops (refused_at n kind.Site)
-    else goes (record d { sites = d.sites ++ name ∷ [] }) (command.Site name)
-turn_of d n (command.Edit name edit) = by_site d n name (command.Edit name edit)
-turn_of d n (command.Push name count) = by_site d n name (command.Push name count)
-turn_of d n (command.Pull name count) = by_site d n name (command.Pull name count)
-turn_of d n (command.Show name) = by_site d n name (command.Show name)
-turn_of d n command.PushAll = by_all d n command.PushAll
-turn_of d n command.PullAll = by_all d n command.PullAll
-turn_of d n command.End = if d.sheet then stops ended else stops (refused_at n kind.Sheet)
+turn_of d n c = elim (fault_of d c) as (λ _. LineTurn) [
+  | None ↦ turn_accepted d c
+  | Some k ↦ stops (refused_at n k)
+]
 
 abbrev pub turn_of_line : Declared → ℕ → Option Command → LineTurn
 turn_of_line d n None = stops (refused_at n kind.Grammar)

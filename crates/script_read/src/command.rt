@@ -14,7 +14,9 @@ pub enum Command {
     Sheet(Size),
     /// `site NAME`: declares a site.
     Site(Txt),
-    /// `NAME set CELL ENTRY`: the site enters a text into a cell; `NAME clear CELL`: it empties one.
+    /// An edit of the site. `NAME set CELL ENTRY` enters a text into a cell, `NAME clear CELL` empties one,
+    /// `NAME insrow COUNT` and `NAME inscol LETTERS` insert a line before a visible one, and
+    /// `NAME delrow COUNT` and `NAME delcol LETTERS` delete a visible line.
     Edit(Txt, Edit),
     /// `NAME push` or `NAME push COUNT`: the site's operations go to the server, all or at most so many.
     Push(Txt, Option<u32>),
@@ -26,6 +28,8 @@ pub enum Command {
     PullAll,
     /// `show NAME`: prints the site's sheet.
     Show(Txt),
+    /// `show server`: prints the server's sheet.
+    ShowServer,
     /// `end`: ends the script.
     End,
 }

@@ -14,11 +14,16 @@ pub enum Form<'a> {
     Site(&'a [u8]),
     Set(&'a [u8], Spot, &'a [u8]),
     Clear(&'a [u8], Spot),
+    InsRow(&'a [u8], u32),
+    InsCol(&'a [u8], u32),
+    DelRow(&'a [u8], u32),
+    DelCol(&'a [u8], u32),
     Push(&'a [u8], Option<u32>),
     Pull(&'a [u8], Option<u32>),
     PushAll,
     PullAll,
     Show(&'a [u8]),
+    ShowServer,
     End,
 }
 
@@ -35,11 +40,16 @@ pub fn to_command(alloc: Global, form: Form<'_>) -> Result<Command, Memory>
             Command::Edit(name, Edit::Set(spot, Txt::new(alloc, entry)?))
         }
         Form::Clear(name, spot) => Command::Edit(Txt::new(alloc, name)?, Edit::Clear(spot)),
+        Form::InsRow(name, row) => Command::Edit(Txt::new(alloc, name)?, Edit::InsRow(row)),
+        Form::InsCol(name, col) => Command::Edit(Txt::new(alloc, name)?, Edit::InsCol(col)),
+        Form::DelRow(name, row) => Command::Edit(Txt::new(alloc, name)?, Edit::DelRow(row)),
+        Form::DelCol(name, col) => Command::Edit(Txt::new(alloc, name)?, Edit::DelCol(col)),
         Form::Push(name, count) => Command::Push(Txt::new(alloc, name)?, count),
         Form::Pull(name, count) => Command::Pull(Txt::new(alloc, name)?, count),
         Form::PushAll => Command::PushAll,
         Form::PullAll => Command::PullAll,
         Form::Show(name) => Command::Show(Txt::new(alloc, name)?),
+        Form::ShowServer => Command::ShowServer,
         Form::End => Command::End,
     };
     Ok(command)

@@ -1,21 +1,24 @@
-ghost use Rattle.std.specs.Prelude.{◌≡◌, ◌↔◌, Some, None, IfOk, IsErrOf};
+ghost use Rattle.std.specs.Prelude.{◌≡◌, ◌↔◌, Some, None, IfOk, IsErrOf, length};
 ghost use Rattle.std.specs.List.{list_all};
 ghost use Rattle.cell_addr.specs.Cells.{cell_of};
-ghost use Rattle.script_read.specs.Commands.{command_of, is_note, of_words, of_one_word, of_two_words, of_three_words, of_more_words, plain_cell, sheet_of};
+ghost use Rattle.cell_addr.specs.Rows.{row_numbered};
+ghost use Rattle.script_read.specs.Commands.{command_of, IsWithin, is_note, of_words, of_one_word, of_two_words, of_three_words, of_one_line, of_more_words, plain_cell, sheet_sized};
 ghost use Rattle.script_read.specs.Forms.{said};
 ghost use Rattle.script_read.specs.Words.{is_printable, words};
 
 use crate::command::{Command, LineFault};
 use crate::form::{Form, to_command};
 use crate::words::{cut, is_word, name_of};
-use cell_addr::{read_cell, read_count};
+use cell_addr::{col_of, read_cell, read_count};
 use ss_base::{Size, Spot};
 use std::alloc::Global;
 
 /// The command that a line of a script is, given without its line feed. `Grammar` comes exactly where the
-/// line is none of the forms; then no memory was asked for.
+/// line is none of the forms; then no memory was asked for. A sheet has 1 to 1,000 rows and 1 to 64
+/// columns, and an entry is no longer than its line.
 pub fn read_command(alloc: Global, line: &[u8]) -> Result<Command, LineFault>
     ensures command { IfOk result (λ c. command_of line.now ≡ Some c) }
+    ensures within { IfOk result (λ c. IsWithin (length line.now) c) }
     ensures grammar { IsErrOf result LineFault.Grammar ↔ (command_of line.now ≡ None) }
 {
     match form_of(line) {
@@ -84,7 +87,11 @@ fn of_two_words<'a>(first: &'a [u8], second: &'a [u8]) -> Option<Form<'a>>
     if is_word(first, b"site") {
         Some(Form::Site(name_of(second)?))
     } else if is_word(first, b"show") {
-        Some(Form::Show(name_of(second)?))
+        if is_word(second, b"server") {
+            Some(Form::ShowServer)
+        } else {
+            Some(Form::Show(name_of(second)?))
+        }
     } else if is_word(first, b"push") {
         if is_word(second, b"all") {
             Some(Form::PushAll)
@@ -110,7 +117,7 @@ fn of_three_words<'a>(first: &'a [u8], second: &'a [u8], third: &'a [u8]) -> Opt
     ensures { said result ≡ of_three_words first.now second.now third.now }
 {
     if is_word(first, b"sheet") {
-        sheet_of(read_count(second)?, read_count(third)?)
+        sheet_sized(read_count(second)?, read_count(third)?)
     } else if is_word(second, b"push") {
         Some(Form::Push(name_of(first)?, Some(read_count(third)?)))
     } else if is_word(second, b"pull") {
@@ -118,13 +125,38 @@ fn of_three_words<'a>(first: &'a [u8], second: &'a [u8], third: &'a [u8]) -> Opt
     } else if is_word(second, b"clear") {
         Some(Form::Clear(name_of(first)?, plain_cell(third)?))
     } else {
+        of_one_line(first, second, third)
+    }
+}
+
+/// An edit of one visible line: `NAME insrow COUNT` and the like.
+fn of_one_line<'a>(first: &'a [u8], second: &'a [u8], third: &'a [u8]) -> Option<Form<'a>>
+    ensures { said result ≡ of_one_line first.now second.now third.now }
+{
+    if is_word(second, b"insrow") {
+        Some(Form::InsRow(name_of(first)?, row_of(third)?))
+    } else if is_word(second, b"inscol") {
+        Some(Form::InsCol(name_of(first)?, col_of(third)?))
+    } else if is_word(second, b"delrow") {
+        Some(Form::DelRow(name_of(first)?, row_of(third)?))
+    } else if is_word(second, b"delcol") {
+        Some(Form::DelCol(name_of(first)?, col_of(third)?))
+    } else {
         None
     }
 }
 
+/// The index from 0 of the row with a number, which counts from 1.
+fn row_of(text: &[u8]) -> Option<u32>
+    ensures { result ≡ row_numbered text.now }
+{
+    let number = read_count(text)?;
+    Some(number - 1)
+}
+
 /// The opening of a sheet, where it is of a size that a sheet may have.
-fn sheet_of<'a>(rows: u32, cols: u32) -> Option<Form<'a>>
-    ensures { said result ≡ sheet_of (Some rows) (Some cols) }
+fn sheet_sized<'a>(rows: u32, cols: u32) -> Option<Form<'a>>
+    ensures { said result ≡ sheet_sized (Some rows) (Some cols) }
 {
     if rows <= 1000 && cols <= 64 {
         Some(Form::Sheet(Size { rows, cols }))

@@ -3,7 +3,7 @@ use std::test::Fail;
 
 #[test]
 fn lines_and_their_commands(rt: HostRuntime) -> Result<(), Fail> {
-    let table: [(&[u8], &str); 16] = [
+    let table: [(&[u8], &str); 21] = [
         (b"", "Ok(Note)"),
         (b"# sheet 1 1", "Ok(Note)"),
         (b"sheet 1000 64", "Ok(Sheet(Size { rows: 1000, cols: 64 }))"),
@@ -24,6 +24,16 @@ fn lines_and_their_commands(rt: HostRuntime) -> Result<(), Fail> {
             b"a clear A1",
             "Ok(Edit(Txt { bytes: [97] }, Clear(Spot { row: 0, col: 0, abs_row: false, abs_col: false })))",
         ),
+        (b"a insrow 2", "Ok(Edit(Txt { bytes: [97] }, InsRow(1)))"),
+        (b"a inscol aa", "Ok(Edit(Txt { bytes: [97] }, InsCol(26)))"),
+        (
+            b"a delrow 9999999",
+            "Ok(Edit(Txt { bytes: [97] }, DelRow(9999998)))",
+        ),
+        (
+            b"a delcol ZZZ",
+            "Ok(Edit(Txt { bytes: [97] }, DelCol(18277)))",
+        ),
         (b"a push", "Ok(Push(Txt { bytes: [97] }, None))"),
         (
             b"set push 9999999",
@@ -34,6 +44,7 @@ fn lines_and_their_commands(rt: HostRuntime) -> Result<(), Fail> {
         (b"push all", "Ok(PushAll)"),
         (b"pull all", "Ok(PullAll)"),
         (b"show a1", "Ok(Show(Txt { bytes: [97, 49] }))"),
+        (b"show server", "Ok(ShowServer)"),
         (b"end", "Ok(End)"),
     ];
     for (line, answer) in table {
@@ -45,7 +56,7 @@ fn lines_and_their_commands(rt: HostRuntime) -> Result<(), Fail> {
 
 #[test]
 fn lines_outside_the_grammar(rt: HostRuntime) -> Result<(), Fail> {
-    let lines: [&[u8]; 13] = [
+    let lines: [&[u8]; 16] = [
         b" end",
         b"end ",
         b"push  all",
@@ -58,6 +69,9 @@ fn lines_outside_the_grammar(rt: HostRuntime) -> Result<(), Fail> {
         b"sheet 1 65",
         b"a set A$1 1",
         b"a set A1 ",
+        b"a insrow 0",
+        b"a delcol $A",
+        b"site server",
         b"# a\ttab",
     ];
     for line in lines {

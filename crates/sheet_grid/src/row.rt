@@ -1,9 +1,13 @@
-ghost use Rattle.std.specs.Prelude.{◌≡◌, ◌<◌, ◌≤◌, ℕ, None, Some, map, replicate, unwrap_or, IsSome, IfOk, OnErr, IfSome, IfNone};
+ghost use Rattle.std.specs.Prelude.{◌≡◌, None, Some, map, replicate, unwrap_or, IsSome, IfOk, IfSome, IfNone, OnOk, OnErr};
+ghost use Rattle.std.specs.BTreeMap.{insert_entry};
+ghost use Rattle.std.specs.Ordering.{nat_cmp};
 ghost use Rattle.sheet_ops.specs.declared.content.Content.TheVariants as content;
-ghost use Rattle.sheet_grid.specs.Cells.{kind_of};
-ghost use Rattle.sheet_grid.specs.Rows.{held, no_cells, with_cell, settled};
+ghost use Rattle.sheet_grid.specs.Cells.{kind_of, formula_of};
+ghost use Rattle.sheet_grid.specs.Kept.{held, no_cells};
+ghost use Rattle.sheet_grid.specs.Rows.{with_cell, settled};
 
 use crate::Kind;
+use formula_tree::Formula;
 use sheet_ops::Content;
 use ss_base::Memory;
 use std::alloc::Global;
@@ -20,7 +24,39 @@ pub fn empty_rows(alloc: Global, count: u32) -> Result<Vec<BTreeMap<u32, Content
     Ok(rows)
 }
 
-/// What the cell of a column holds.
+/// Equal rows.
+pub fn copy_rows(rows: &Vec<BTreeMap<u32, Content>>) -> Result<Vec<BTreeMap<u32, Content>>, Memory>
+    ensures { IfOk result (λ copies. map held copies.items ≡ map held rows.now.items) }
+{
+    let alloc = *rows.allocator();
+    let mut copies = Vec::with_capacity(alloc, rows.len())?;
+    for row in rows {
+        copies.push(copy_row(alloc, row)?)?;
+    }
+    Ok(copies)
+}
+
+/// An equal row.
+fn copy_row(alloc: Global, row: &BTreeMap<u32, Content>) -> Result<BTreeMap<u32, Content>, Memory>
+    ensures { IfOk result (λ copy. held copy ≡ held row.now) }
+{
+    let mut copy = BTreeMap::new(alloc);
+    for (col, what) in row.iter() {
+        copy_cell(&mut copy, *col, what)?;
+    }
+    Ok(copy)
+}
+
+// Puts a copy of a content under the key of a column.
+fn copy_cell(row: &mut BTreeMap<u32, Content>, col: u32, what: &Content) -> Result<(), Memory>
+    ensures { OnOk result (row.new.entries ≡ insert_entry nat_cmp row.old.entries col what.now) }
+{
+    let what = what.copy()?;
+    let _old = row.insert(col, what)?;
+    Ok(())
+}
+
+/// What kind of content the cell of a column holds.
 pub fn kind_in(row: &BTreeMap<u32, Content>, col: u32) -> Kind
     ensures { result ≡ kind_of (unwrap_or (held row.now col) content.Empty) }
 {
@@ -32,25 +68,14 @@ pub fn kind_in(row: &BTreeMap<u32, Content>, col: u32) -> Kind
     }
 }
 
-/// A copy of what the cell of a column holds.
-pub fn content_in(row: &BTreeMap<u32, Content>, col: u32) -> Result<Content, Memory>
-    ensures { IfOk result (λ c. c ≡ unwrap_or (held row.now col) content.Empty) }
+/// The formula under the key of a column.
+pub fn formula_in(row: &BTreeMap<u32, Content>, col: u32) -> Option<&Formula>
+    ensures formula { IfSome result (λ f. unwrap_or (held row.now col) content.Empty ≡ content.Formula f.now) }
+    ensures none { IfNone result (formula_of (unwrap_or (held row.now col) content.Empty) ≡ None) }
 {
     match row.get(&col) {
-        Some(what) => what.copy(),
-        None => Ok(Content::Empty),
-    }
-}
-
-/// The first column from `from` on that has a key.
-pub fn filled_from(row: &BTreeMap<u32, Content>, from: u32) -> Option<u32>
-    ensures within { IfSome result (λ c. (from ≤ c) × IsSome (held row.now c)) }
-    ensures first { IfSome result (λ c. (k : ℕ) → from ≤ k → k < c → held row.now k ≡ None) }
-    ensures none { IfNone result ((k : ℕ) → from ≤ k → held row.now k ≡ None) }
-{
-    match row.range(from..).next() {
-        Some((col, _)) => Some(*col),
-        None => None,
+        Some(Content::Formula(formula)) => Some(formula),
+        _ => None,
     }
 }
 

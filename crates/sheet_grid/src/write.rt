@@ -1,9 +1,9 @@
-ghost use Rattle.std.specs.Prelude.{◌≡◌, ℕ, map, length, OnOk, OnErr};
-ghost use Rattle.sheet_ops.specs.Effects.{cells_written};
-ghost use Rattle.sheet_grid.specs.Rows.{held, grid, AreInRows, AreInCols, AddsNoEmpty, IsWithin, written_by};
+ghost use Rattle.std.specs.Prelude.{◌≡◌, map, length, OnOk, OnErr};
+ghost use Rattle.sheet_grid.specs.Kept.{held, cell_kept};
+ghost use Rattle.sheet_grid.specs.Rows.{puts_kept, AreInRows, AddsNoEmpty};
 
 use crate::row::{put_back, settle, store};
-use sheet_ops::{Content, Effect, Put};
+use sheet_ops::{Content, Put};
 use ss_base::Memory;
 use std::collections::BTreeMap;
 
@@ -12,9 +12,8 @@ use std::collections::BTreeMap;
 /// every key holds.
 pub fn write_puts(rows: &mut [BTreeMap<u32, Content>], puts: &[Put]) -> Result<(), Memory>
     requires { AreInRows (length rows.old) puts.now }
-    ensures ok { OnOk result ((cols : ℕ) → grid cols (map held rows.new) ≡ cells_written (grid cols (map held rows.old)) puts.now) }
+    ensures ok { OnOk result (cell_kept rows.new ≡ puts_kept (cell_kept rows.old) puts.now) }
     ensures empties { OnOk result (AddsNoEmpty (map held rows.old) (map held rows.new)) }
-    ensures within { OnOk result ((cols : ℕ) → AreInCols cols puts.now → IsWithin cols (map held rows.old) → IsWithin cols (map held rows.new)) }
     ensures err { OnErr result (map held rows.new ≡ map held rows.old) }
 {
     let Some((put, rest)) = puts.split_first() else {
@@ -29,13 +28,4 @@ pub fn write_puts(rows: &mut [BTreeMap<u32, Content>], puts: &[Put]) -> Result<(
         Err(_) => put_back(&mut rows[row], put.col, old),
     }
     done
-}
-
-/// The cells that an effect writes, in order.
-pub fn written_by(effect: &Effect) -> &[Put]
-    ensures { result.now ≡ written_by effect.now }
-{
-    match effect {
-        Effect::Write(puts) => puts.as_slice(),
-    }
 }

@@ -9,10 +9,9 @@ use Rattle.formula_tree.specs.Remap.{EachReference, EachReferences}
 use Rattle.sheet_ops.specs.declared.content.Content.{Content}
 use Rattle.sheet_ops.specs.declared.content.Content.TheVariants as content
 use Rattle.sheet_ops.specs.declared.content.Put.{Put}
-use Rattle.sheet_ops.specs.declared.operation.Effect.{Effect}
 use Rattle.sheet_ops.specs.declared.operation.Effect.TheVariants as effect
 use Rattle.sheet_ops.specs.LineIds.{LineId, id_eq}
-use Rattle.sheet_ops.specs.Lines.{Line, no_line, place_where, rec_at, rec_place, slot_at, slot_place}
+use Rattle.sheet_ops.specs.Lines.{AxisLine, no_line, place_where, rec_at, rec_place, slot_at, slot_place}
 use Rattle.sheet_ops.specs.Identity.{IdContent, IdSheet}
 use Rattle.sheet_ops.specs.Act.{put_at, puts_at}
 use Rattle.sheet_ops.specs.Naming.{resolve_cell, resolve_range, resolve_content, resolve_put, locate_cell, locate_range, locate_content, step}
@@ -21,31 +20,31 @@ use Rattle.sheet_ops.specs.Fits.{CellFits, RangeFits, ContentFits, Avoids, AreAp
 use Rattle.sheet_ops.specs.Effects.{cell_written, cells_written, effect_on}
 use Rattle.sheet_ops.proofs.Ids.{id_eq-self, id_eq-other}
 
-apart_at : (of : Line → LineId) (ls : List Line) (p : ℕ) (id : LineId) → Avoids of ls id → p < length ls → id_eq (of (slice_index_or ls p no_line)) id ≡ false
+apart_at : (of : AxisLine → LineId) (ls : List AxisLine) (p : ℕ) (id : LineId) → Avoids of ls id → p < length ls → id_eq (of (slice_index_or ls p no_line)) id ≡ false
 apart_at of [] p id v k = absurd (omega arith)
 apart_at of (m ∷ ls) zero id v k = v.0
 apart_at of (m ∷ ls) (suc p) id v k = apart_at of ls p id v.1 (omega arith)
 
 -- where two functions of lines differ at one line alone, their lists do so
-module _ {A : Type 0} (f g : Line → A) where
-  away : (ls : List Line) (a : LineId) → Avoids (λ l. l.rec) ls a → ((l : Line) → id_eq l.rec a ≡ false → g l ≡ f l) → map g ls ≡ map f ls
+module _ {A : Type 0} (f g : AxisLine → A) where
+  away : (ls : List AxisLine) (a : LineId) → Avoids (λ l. l.rec) ls a → ((l : AxisLine) → id_eq l.rec a ≡ false → g l ≡ f l) → map g ls ≡ map f ls
   away [] a v h = refl
   away (l ∷ ls) a v h = λ i. h l v.0 i ∷ away ls a v.1 h i
 
-  pub map_at_one : (ls : List Line) (p : ℕ) → AreApart (λ l. l.rec) ls → p < length ls → ((l : Line) → id_eq l.rec (slice_index_or ls p no_line).rec ≡ false → g l ≡ f l) → (x : A) →
-      ((l : Line) → slice_index_or ls p no_line ≡ l → g l ≡ x) → map g ls ≡ slice_set (map f ls) p x
+  pub map_at_one : (ls : List AxisLine) (p : ℕ) → AreApart (λ l. l.rec) ls → p < length ls → ((l : AxisLine) → id_eq l.rec (slice_index_or ls p no_line).rec ≡ false → g l ≡ f l) → (x : A) →
+      ((l : AxisLine) → slice_index_or ls p no_line ≡ l → g l ≡ x) → map g ls ≡ slice_set (map f ls) p x
   map_at_one [] p apart k h x here = absurd (omega arith)
   map_at_one (l ∷ ls) zero apart k h x here = λ i. here l refl i ∷ away ls l.rec apart.0 h i
   map_at_one (l ∷ ls) (suc p) apart k h x here =
       λ i. h l (id_eq-other (slice_index_or ls p no_line).rec l.rec (apart_at (λ m. m.rec) ls p l.rec apart.0 (omega arith))) i ∷ map_at_one ls p apart.1 (omega arith) h x here i
 
-pub index_map : {A : Type 0} (f : Line → A) (d : A) (ls : List Line) (p : ℕ) → p < length ls → slice_index_or (map f ls) p d ≡ f (slice_index_or ls p no_line)
+pub index_map : {A : Type 0} (f : AxisLine → A) (d : A) (ls : List AxisLine) (p : ℕ) → p < length ls → slice_index_or (map f ls) p d ≡ f (slice_index_or ls p no_line)
 index_map f d [] p k = absurd (omega arith)
 index_map f d (l ∷ ls) zero k = refl
 index_map f d (l ∷ ls) (suc p) k = index_map f d ls p (omega arith)
 
 -- the place of what stands at a position is that position
-place_again : (of : Line → LineId) (ls : List Line) (p : ℕ) → AreApart of ls → p < length ls → place_where (λ l. id_eq (of l) (of (slice_index_or ls p no_line))) ls ≡ p
+place_again : (of : AxisLine → LineId) (ls : List AxisLine) (p : ℕ) → AreApart of ls → p < length ls → place_where (λ l. id_eq (of l) (of (slice_index_or ls p no_line))) ls ≡ p
 place_again of [] p apart k = absurd (omega arith)
 place_again of (l ∷ ls) zero apart k = rw (id_eq-self (of l)) refl
 place_again of (l ∷ ls) (suc p) apart k =
@@ -115,7 +114,7 @@ AllInside-append size [] qs f g = g
 AllInside-append size (p ∷ ps) qs f g = (f.0, f.1, f.2, AllInside-append size ps qs f.3 g)
 
 module _ (X : IdSheet) (ok : IsWellFormed X) where
-  abbrev row_of : (LineId → LineId → IdContent) → Line → List Content
+  abbrev row_of : (LineId → LineId → IdContent) → AxisLine → List Content
   row_of cells l = map (λ k. locate_content X (cells l.rec k.rec)) X.cols.lines
 
   one_written : (cells : LineId → LineId → IdContent) (p : Put) → p.row < length X.rows.lines → p.col < length X.cols.lines → ContentFits (size_of X) p.content →
@@ -123,22 +122,22 @@ module _ (X : IdSheet) (ok : IsWellFormed X) where
   one_written cells p r c fits =
       map_at_one (row_of cells) (row_of (put_at cells (resolve_put X p))) X.rows.lines p.row ok.rows.recs r other (slice_set (slice_index_or (map (row_of cells) X.rows.lines) p.row []) p.col p.content) here
     where
-      other : (l : Line) → id_eq l.rec (rec_at X.rows p.row) ≡ false → row_of (put_at cells (resolve_put X p)) l ≡ row_of cells l
+      other : (l : AxisLine) → id_eq l.rec (rec_at X.rows p.row) ≡ false → row_of (put_at cells (resolve_put X p)) l ≡ row_of cells l
       other l e = λ i. map (λ k. locate_content X (cond (id_eq-other l.rec (rec_at X.rows p.row) e i && id_eq (rec_at X.cols p.col) k.rec) (resolve_content X p.content) (cells l.rec k.rec))) X.cols.lines
 
-      here : (l : Line) → slice_index_or X.rows.lines p.row no_line ≡ l → row_of (put_at cells (resolve_put X p)) l ≡ slice_set (slice_index_or (map (row_of cells) X.rows.lines) p.row []) p.col p.content
+      here : (l : AxisLine) → slice_index_or X.rows.lines p.row no_line ≡ l → row_of (put_at cells (resolve_put X p)) l ≡ slice_set (slice_index_or (map (row_of cells) X.rows.lines) p.row []) p.col p.content
       here l e =
           map_at_one (λ k. locate_content X (cells l.rec k.rec)) (λ k. locate_content X (put_at cells (resolve_put X p) l.rec k.rec)) X.cols.lines p.col ok.cols.recs c beside p.content at
           ∙ ap (λ (row : List Content). slice_set row p.col p.content) (sym (index_map (row_of cells) [] X.rows.lines p.row r ∙ ap (row_of cells) e))
         where
           same : id_eq (rec_at X.rows p.row) l.rec ≡ true
-          same = ap (λ (m : Line). id_eq m.rec l.rec) e ∙ id_eq-self l.rec
+          same = ap (λ (m : AxisLine). id_eq m.rec l.rec) e ∙ id_eq-self l.rec
 
-          beside : (k : Line) → id_eq k.rec (rec_at X.cols p.col) ≡ false → locate_content X (put_at cells (resolve_put X p) l.rec k.rec) ≡ locate_content X (cells l.rec k.rec)
+          beside : (k : AxisLine) → id_eq k.rec (rec_at X.cols p.col) ≡ false → locate_content X (put_at cells (resolve_put X p) l.rec k.rec) ≡ locate_content X (cells l.rec k.rec)
           beside k h = λ i. locate_content X (cond (same i && id_eq-other k.rec (rec_at X.cols p.col) h i) (resolve_content X p.content) (cells l.rec k.rec))
 
-          at : (k : Line) → slice_index_or X.cols.lines p.col no_line ≡ k → locate_content X (put_at cells (resolve_put X p) l.rec k.rec) ≡ p.content
-          at k h = (λ i. locate_content X (cond (same i && (ap (λ (m : Line). id_eq m.rec k.rec) h ∙ id_eq-self k.rec) i) (resolve_content X p.content) (cells l.rec k.rec))) ∙ content_again X ok p.content fits
+          at : (k : AxisLine) → slice_index_or X.cols.lines p.col no_line ≡ k → locate_content X (put_at cells (resolve_put X p) l.rec k.rec) ≡ p.content
+          at k h = (λ i. locate_content X (cond (same i && (ap (λ (m : AxisLine). id_eq m.rec k.rec) h ∙ id_eq-self k.rec) i) (resolve_content X p.content) (cells l.rec k.rec))) ∙ content_again X ok p.content fits
 
   -- so many cells written by identity are so many written by positions
   pub placed-puts_at : (cells : LineId → LineId → IdContent) (ps : List Put) → AllInside (size_of X) ps →
@@ -146,6 +145,6 @@ module _ (X : IdSheet) (ok : IsWellFormed X) where
   placed-puts_at cells [] f = refl
   placed-puts_at cells (p ∷ ps) f = placed-puts_at (put_at cells (resolve_put X p)) ps f.3 ∙ ap (λ (rows : List (List Content)). cells_written rows ps) (one_written cells p f.0 f.1 f.2)
 
--- the position step of an effect, seen by positions
-pub placed-step : (X : IdSheet) (e : Effect) (id : LineId) → IsWellFormed X → EffectFits (size_of X) e → placed (step X e id) ≡ effect_on (placed X) e
-placed-step X (effect.Write ps) id ok f = ap (λ (rows : List (List Content)). record (placed X) { cells = rows }) (placed-puts_at X ok X.cells ps (AllInside-fit (size_of X) ps f.1))
+-- the position step of a write, seen by positions
+pub placed-write : (X : IdSheet) (ps : List Put) (ids : List LineId) → IsWellFormed X → EffectFits (size_of X) (effect.Write ps) → placed (step X (effect.Write ps) ids) ≡ effect_on (placed X) (effect.Write ps)
+placed-write X ps ids ok f = ap (λ (rows : List (List Content)). record (placed X) { cells = rows }) (placed-puts_at X ok X.cells ps (AllInside-fit (size_of X) ps f.1))

@@ -4,8 +4,15 @@ pub mod Identity
 pub mod Act
 pub mod Naming
 pub mod Placed
+pub mod Maps
 pub mod Fits
+pub mod Misfits
 pub mod Weights
 pub mod Numerals
 pub mod History
 pub mod Effects
+pub mod Transforms
+pub mod Squares
+pub mod Chains
+pub mod Represents
+pub mod Published

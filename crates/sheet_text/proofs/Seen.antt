@@ -4,7 +4,8 @@ use Rattle.std.specs.Prelude.{map, filter, not, slice_index_or}
 use Rattle.sheet_ops.specs.declared.content.Content.{Content}
 use Rattle.sheet_ops.specs.declared.content.Content.TheVariants as content
 use Rattle.sheet_ops.specs.LineIds.{LineId}
-use Rattle.sheet_ops.specs.Lines.{Line, Axis, no_line, marks, live_lines, visible_from, visible_places}
+use Rattle.sheet_ops.specs.Lines.{AxisLine, Axis, no_line, marks, live_lines}
+use Rattle.marked_lines.specs.Marks.{places_from, visible_places}
 use Rattle.sheet_ops.specs.Identity.{IdSheet}
 use Rattle.sheet_ops.specs.Naming.{locate_content}
 use Rattle.sheet_ops.specs.Placed.{placed, cell_at}
@@ -12,9 +13,9 @@ use Rattle.sheet_text.specs.Shown.{shown, shown_text, shown_placed}
 use Rattle.sheet_ops.proofs.Written.{index_map}
 
 -- what a function gives over the lines that pass, and what it gives over their positions
-module _ {A : Type 0} (dead : LineId → Bool) (g : Line → A) (h : ℕ → A) where
-  over_places : (first : ℕ) (ls : List Line) → ((p : ℕ) → p < length ls → h (first + p) ≡ g (slice_index_or ls p no_line)) →
-      map g (filter (λ l. not (dead l.rec)) ls) ≡ map h (visible_from first (map (λ l. dead l.rec) ls))
+module _ {A : Type 0} (dead : LineId → Bool) (g : AxisLine → A) (h : ℕ → A) where
+  over_places : (first : ℕ) (ls : List AxisLine) → ((p : ℕ) → p < length ls → h (first + p) ≡ g (slice_index_or ls p no_line)) →
+      map g (filter (λ l. not (dead l.rec)) ls) ≡ map h (places_from first (map (λ l. dead l.rec) ls))
   over_places first [] e = refl
   over_places first (l ∷ ls) e = by_mark (dead l.rec) (over_places (suc first) ls next)
     where
@@ -24,8 +25,8 @@ module _ {A : Type 0} (dead : LineId → Bool) (g : Line → A) (h : ℕ → A) 
       here : h first ≡ g l
       here = ap h (let z : first ≡ first + 0 = omega arith in z) ∙ e 0 (omega arith)
 
-      by_mark : (b : Bool) → map g (filter (λ l. not (dead l.rec)) ls) ≡ map h (visible_from (suc first) (map (λ l. dead l.rec) ls)) →
-          map g (cond (not b) (l ∷ filter (λ l. not (dead l.rec)) ls) (filter (λ l. not (dead l.rec)) ls)) ≡ map h (cond b (visible_from (suc first) (map (λ l. dead l.rec) ls)) (first ∷ visible_from (suc first) (map (λ l. dead l.rec) ls)))
+      by_mark : (b : Bool) → map g (filter (λ l. not (dead l.rec)) ls) ≡ map h (places_from (suc first) (map (λ l. dead l.rec) ls)) →
+          map g (cond (not b) (l ∷ filter (λ l. not (dead l.rec)) ls) (filter (λ l. not (dead l.rec)) ls)) ≡ map h (places_from first (b ∷ map (λ l. dead l.rec) ls))
       by_mark true rest = rest
       by_mark false rest = λ i. sym here i ∷ rest i
 
@@ -33,7 +34,7 @@ module _ {A : Type 0} (dead : LineId → Bool) (g : Line → A) (h : ℕ → A) 
       map g (live_lines axis) ≡ map h (visible_places (marks axis))
   live_lines-places axis d e =
       (λ i. map g (filter (λ l. not (d i l.rec)) axis.lines))
-      ∙ (over_places 0 axis.lines (λ p k. ap h (let z : 0 + p ≡ p = omega arith in z) ∙ e p k) ∙ (λ i. map h (visible_from 0 (map (λ l. sym d i l.rec) axis.lines))))
+      ∙ (over_places 0 axis.lines (λ p k. ap h (let z : 0 + p ≡ p = omega arith in z) ∙ e p k) ∙ (λ i. map h (places_from 0 (map (λ l. sym d i l.rec) axis.lines))))
 
 length_map : {A B : Type 0} (f : A → B) (xs : List A) → length (map f xs) ≡ length xs
 length_map f [] = refl
@@ -41,7 +42,7 @@ length_map f (x ∷ xs) = ap suc (length_map f xs)
 
 pub live_count : (axis : Axis) → length (live_lines axis) ≡ length (visible_places (marks axis))
 live_count axis =
-    let one : Line → Bool = λ _. true in
+    let one : AxisLine → Bool = λ _. true in
     let each : ℕ → Bool = λ _. true in
     sym (length_map one (live_lines axis)) ∙ (ap length (live_lines-places axis.dead one each axis refl (λ p k. refl)) ∙ length_map each (visible_places (marks axis)))
 

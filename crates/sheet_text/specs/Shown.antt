@@ -1,17 +1,16 @@
 -- What a person sees of a sheet.
 use Rattle.std.specs.Prelude.{ℕ, nat_eq, not, ◌||◌, Bool, false, if◌then◌else◌, List, [], ◌∷◌, length, map}
 use Rattle.std.specs.Fmt.{signed_decimal}
-use Rattle.marked_lines.specs.Marks.{span_of}
+use Rattle.marked_lines.specs.Marks.{visible_places, visible_of, span_of}
 use Rattle.formula_tree.specs.Remap.{Images, mapped}
 use Rattle.formula_tree.specs.Printed.{formula_text}
 use Rattle.sheet_ops.specs.declared.content.Content.{Content}
 use Rattle.sheet_ops.specs.declared.content.Content.TheVariants as content
-use Rattle.sheet_ops.specs.Lines.{live_lines, visible_places}
+use Rattle.sheet_ops.specs.Lines.{live_lines}
 use Rattle.sheet_ops.specs.Identity.{IdSheet}
 use Rattle.sheet_ops.specs.Naming.{locate_content}
 use Rattle.sheet_ops.specs.Numerals.{is_numeral}
 use Rattle.sheet_ops.specs.Placed.{PlacedSheet, placed, cell_at}
-use Rattle.sheet_grid.specs.Cells.{visible_index}
 
 -- how many rows and columns are visible, and the text of each visible cell, row by row; none is empty but that of an
 -- empty cell
@@ -29,8 +28,8 @@ is_plain (b ∷ bs) = not (nat_eq b 61 || (nat_eq b 39 || is_numeral (b ∷ bs))
 -- hidden, and one to a range, which is seen from its first to its last visible line, where all its rows or columns are
 abbrev pub seen : List Bool → List Bool → Images
 seen rows cols = record {
-  rec_row = λ row. visible_index rows row;
-  rec_col = λ col. visible_index cols col;
+  rec_row = λ row. visible_of rows row;
+  rec_col = λ col. visible_of cols col;
   span_rows = λ top bottom. span_of rows top bottom;
   span_cols = λ left right. span_of cols left right;
 }

@@ -17,13 +17,13 @@ row_lines row col [] = []
 row_lines row col (text ∷ texts) = cell_line row col text ++ row_lines row (suc col) texts
 
 -- the lines of the cells row by row, from a visible row on
-abbrev pub lines_from : ℕ → List (List (List ℕ)) → List ℕ
-lines_from row [] = []
-lines_from row (texts ∷ rows) = row_lines row 0 texts ++ lines_from (suc row) rows
+abbrev pub rows_lines : ℕ → List (List (List ℕ)) → List ℕ
+rows_lines row [] = []
+rows_lines row (texts ∷ rows) = row_lines row 0 texts ++ rows_lines (suc row) rows
 
 -- the lines of a sheet's cells, row by row, in a row by columns
 abbrev pub cell_lines : ShownSheet → List ℕ
-cell_lines S = lines_from 0 S.cells
+cell_lines S = rows_lines 0 S.cells
 
 -- a first line, and the cells below it
 abbrev pub sheet_text : List ℕ → ShownSheet → List ℕ
@@ -35,9 +35,16 @@ abbrev pub head_text : List ℕ → ℕ → ℕ → ShownSheet → List ℕ
 head_text name taken pending S =
     codes "sheet " ++ (name ++ (codes " taken " ++ (decimal taken ++ (codes " pending " ++ (decimal pending ++ (codes " rows " ++ (decimal S.rows ++ (codes " columns " ++ decimal S.cols))))))))
 
+-- the first line of the server's sheet, without its line feed: how many entries its history has, and how many rows and
+-- columns are visible
+abbrev pub server_head_text : ℕ → ShownSheet → List ℕ
+server_head_text length S = codes "sheet server length " ++ (decimal length ++ (codes " rows " ++ (decimal S.rows ++ (codes " columns " ++ decimal S.cols))))
+
 -- why an edit was refused, in a word; want of memory is never printed
 abbrev pub cause_text : EditErr → List ℕ
 cause_text fault.OutOfSheet = codes "outside"
+cause_text (fault.CopyLarge n) = codes "copy " ++ decimal n
+cause_text (fault.SortLong n) = codes "sort " ++ decimal n
 cause_text (fault.BadFormula p) = codes "at " ++ decimal p
 cause_text fault.Deep = codes "deep"
 cause_text (fault.Heavy w) = codes "heavy " ++ decimal w

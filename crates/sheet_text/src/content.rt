@@ -1,6 +1,7 @@
 ghost use Rattle.std.specs.Prelude.{◌≡◌, ◌∷◌, if◌then◌else◌, IfOk};
 ghost use Rattle.formula_tree.specs.Printed.{formula_text};
 ghost use Rattle.formula_tree.specs.Remap.{mapped};
+ghost use Rattle.sheet_grid.specs.Values.{placed_in};
 ghost use Rattle.sheet_text.specs.Shown.{is_plain, seen, shown_text};
 
 use formula_print::print;
@@ -12,7 +13,7 @@ use std::alloc::Global;
 
 /// A content as it is shown on a sheet.
 pub fn text_of(alloc: Global, sheet: &Sheet, content: Content) -> Result<Txt, Memory>
-    ensures { IfOk result (λ t. t ≡ shown_text sheet.now content) }
+    ensures { IfOk result (λ t. t ≡ shown_text (placed_in sheet.now) content) }
 {
     match content {
         Content::Empty => Ok(Txt::from_vec(Vec::new(alloc))),
@@ -54,7 +55,7 @@ struct Seen<'a> {
 }
 
 impl Remap for Seen<'_> {
-    ghost images = { λ s. seen s.sheet.now.rows s.sheet.now.cols };
+    ghost images = { λ s. seen (placed_in s.sheet.now).rows (placed_in s.sheet.now).cols };
 
     fn rec_row(&self, row: u32) -> Option<u32> {
         self.sheet.row_seen(row)
@@ -75,7 +76,7 @@ impl Remap for Seen<'_> {
 
 /// A formula with its references as they are seen on a sheet.
 fn formula_seen(alloc: Global, sheet: &Sheet, formula: Formula) -> Result<Txt, Memory>
-    ensures { IfOk result (λ t. t ≡ formula_text (mapped (seen sheet.now.rows sheet.now.cols) formula)) }
+    ensures { IfOk result (λ t. t ≡ formula_text (mapped (seen (placed_in sheet.now).rows (placed_in sheet.now).cols) formula)) }
 {
     // No visible index is above the size.
     let _size = sheet.size();

@@ -3,9 +3,10 @@
 
 mod content;
 mod first_line;
+pub mod laws;
 mod lines;
 
-pub use first_line::{head, refusal};
+pub use first_line::{head, refusal, server_head};
 pub use lines::sheet_lines;
 
 #[cfg(test)]

@@ -1,8 +1,8 @@
 ghost use Rattle.std.specs.Prelude.{◌≡◌, ◌<◌, ◌≤◌, ◌++◌, length, map, IfOk, OnOk};
-ghost use Rattle.sheet_ops.specs.Lines.{visible_places};
+ghost use Rattle.marked_lines.specs.Marks.{visible_places, visible_of};
 ghost use Rattle.sheet_ops.specs.Placed.{cell_at};
+ghost use Rattle.sheet_grid.specs.Values.{placed_in};
 ghost use Rattle.sheet_text.specs.Shown.{shown_placed, shown_text};
-ghost use Rattle.sheet_grid.specs.Cells.{visible_index};
 ghost use Rattle.sheet_text.specs.Texts.{cell_line, row_lines, sheet_text};
 ghost use Rattle.sheet_text.specs.Rows.{line_if_seen};
 
@@ -13,9 +13,10 @@ use ss_base::{Memory, Txt};
 use std::alloc::Global;
 
 /// A first line, and below it a line for each visible cell that isn't empty, row by row, in a row
-/// by columns. It takes time with the rows and the filled cells, and the logarithm of a row's.
+/// by columns. It takes time with the visible rows, with what it prints, and with a sort of each row's
+/// filled cells.
 pub fn sheet_lines(alloc: Global, head: &Txt, sheet: &Sheet) -> Result<Txt, Memory>
-    ensures { IfOk result (λ t. t ≡ sheet_text head.now (shown_placed sheet.now)) }
+    ensures { IfOk result (λ t. t ≡ sheet_text head.now (shown_placed (placed_in sheet.now))) }
 {
     let mut out = Vec::from_slice(alloc, head.bytes())?;
     out.push(b'\n')?;
@@ -38,13 +39,12 @@ fn push_row(
     row: u32,
 ) -> Result<(), Memory>
     requires visible { visible < 16000 }
-    requires row { row < length sheet.now.rows }
-    ensures { OnOk result (out.new.items ≡ out.old.items ++ row_lines visible 0 (map (λ c. shown_text sheet.now (cell_at sheet.now row c)) (visible_places sheet.now.cols))) }
+    requires row { row < length (placed_in sheet.now).rows }
+    ensures { OnOk result (out.new.items ≡ out.old.items ++ row_lines visible 0 (map (λ c. shown_text (placed_in sheet.now) (cell_at (placed_in sheet.now) row c)) (visible_places (placed_in sheet.now).cols))) }
 {
-    let mut from = 0;
-    while let Some(col) = sheet.next_in_row(row, from) {
-        push_if_seen(alloc, out, sheet, visible, row, col)?;
-        from = col + 1;
+    let filled = sheet.filled(row)?;
+    for col in &filled {
+        push_if_seen(alloc, out, sheet, visible, row, *col)?;
     }
     Ok(())
 }
@@ -59,9 +59,9 @@ fn push_if_seen(
     col: u32,
 ) -> Result<(), Memory>
     requires visible { visible < 16000 }
-    requires row { row < length sheet.now.rows }
-    requires col { col < length sheet.now.cols }
-    ensures { OnOk result (out.new.items ≡ out.old.items ++ line_if_seen visible (visible_index sheet.now.cols col) (shown_text sheet.now (cell_at sheet.now row col))) }
+    requires row { row < length (placed_in sheet.now).rows }
+    requires col { col < length (placed_in sheet.now).cols }
+    ensures { OnOk result (out.new.items ≡ out.old.items ++ line_if_seen visible (visible_of (placed_in sheet.now).cols col) (shown_text (placed_in sheet.now) (cell_at (placed_in sheet.now) row col))) }
 {
     let Some(seen) = sheet.col_seen(col) else {
         return Ok(());

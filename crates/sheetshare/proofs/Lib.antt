@@ -1,9 +1,1 @@
-pub mod Covered
-pub mod Entries
-pub mod Standing
-pub mod Steps
-pub mod Outcomes
-pub mod Intended
-pub mod Worlds
-pub mod Declared
 pub mod Playing

@@ -1,20 +1,81 @@
--- A run in the middle: what was written, and what the rest will write.
-use Rattle.std.proofs.Common.{◌≡◌, ℕ, ◌+◌, true, false, cond, List, [], ◌∷◌, ◌++◌, take, drop, refl, ap, sym, ◌∙◌, append_assoc, Option, Some, None, Ok, Err}
+-- A run in the middle: what was written, and what the rest will come to.
+use Rattle.std.proofs.Common.{◌≡◌, ℕ, ◌+◌, true, false, cond, List, [], ◌∷◌, ◌++◌, take, drop, refl, ap, sym, ◌∙◌, subst, append_assoc, Option, Some, None, Ok, Err}
 use Rattle.std.proofs.lemmas.List.{append-nil, take-append-drop}
 use Rattle.ss_base.specs.Streams.{AddsBack, TakesPrefix}
-use Rattle.ss_base.specs.Lines.{Line, is_long, GivesLine}
+use Rattle.ss_base.specs.Lines.{Line, FeedState, is_long, lines, lines_left, GivesLine}
 use Rattle.ss_base.specs.declared.lines.Turn.TheVariants as read
 use Rattle.ss_base.specs.declared.lines.LineErr.TheVariants as fault
 use Rattle.script_read.specs.Commands.{command_of}
 use Rattle.script_read.specs.declared.script.ScriptErr.{ScriptErr}
 use Rattle.script_read.specs.declared.script.ScriptKind.TheVariants as kind
 use Rattle.script_read.specs.Script.{Stop, ended, too_long, refused, refused_at, LineTurn, goes, stops, turn_of_line, Script, script_from, after_turn, script_of}
-use Rattle.sheetshare.specs.declared.desk.Outcome.TheVariants as outcome
+use Rattle.script_run.specs.declared.room.Room.{Room}
+use Rattle.script_run.specs.declared.state.Outcome.TheVariants as outcome
+use Rattle.script_run.specs.World.{World, after_all, world_after}
+use Rattle.script_run.specs.Transcript.{transcript_from, transcript}
+use Rattle.script_run.specs.Rooms.{RoomRepresents}
+use Rattle.script_run.specs.States.{Table, first_table, TurnGives}
 use Rattle.sheetshare.specs.declared.play.Status.TheVariants as status
-use Rattle.sheetshare.specs.Transcript.{transcript_from, transcript}
-use Rattle.sheetshare.specs.Desks.{Table, first_table, TurnGives}
 use Rattle.sheetshare.specs.Played.{Wrote, WrotePrefix, Played}
 
+-- ---- the next of the lines that are left
+module _ (t : Table) (n : ℕ) (left : Option (List Line)) (whole : List Line) (left_is : left ≡ Some whole) where
+  known : (new : Option (List Line)) (held : List ℕ) (x : _) → GivesLine left new held x → GivesLine (Some whole) new held x
+  known new held x h = rw left_is at h
+
+  at_end_of : (new : Option (List Line)) (held : List ℕ) → GivesLine (Some whole) new held (Ok read.End) → whole ≡ []
+  at_end_of None held h = absurd h
+  at_end_of (Some new) held h = h.0
+
+  long_of : (new : Option (List Line)) (held : List ℕ) → GivesLine (Some whole) new held (Err fault.TooLong) → (l : Line) × (rest : List Line) × (whole ≡ l ∷ rest) × (is_long l ≡ true)
+  long_of None held h = absurd h
+  long_of (Some new) held h = (h.0, h.1, h.2, h.3)
+
+  line_of : (new : Option (List Line)) (held : List ℕ) → GivesLine (Some whole) new held (Ok read.Line) → (l : Line) × (rest : List Line) × (new ≡ Some rest) × (whole ≡ l ∷ rest) × (held ≡ l.bytes) × (is_long l ≡ false)
+  line_of None held h = absurd h
+  line_of (Some new) held h = (h.0, new, refl, h.1, h.2, h.3)
+
+  -- the turn at a line that was read
+  turn_here : (new : Option (List Line)) (held : List ℕ) → GivesLine left new held (Ok read.Line) → (x : LineTurn) → turn_of_line t.declared n (command_of held) ≡ x → (rest : List Line) × (new ≡ Some rest) × (script_from t.declared n whole ≡ after_turn n x (λ d. script_from d (n + 1) rest))
+  turn_here new held h x k =
+      let (l, rest, now, e, line, short) = line_of new held (known new held (Ok read.Line) h) in (
+        rest,
+        now,
+        ap (script_from t.declared n) e
+            ∙ (ap (λ b. after_turn n (cond b (stops (too_long n)) (turn_of_line t.declared n (command_of l.bytes))) (λ d. script_from d (n + 1) rest)) short
+            ∙ ap (λ y. after_turn n y (λ d. script_from d (n + 1) rest)) (ap (λ bs. turn_of_line t.declared n (command_of bs)) (sym line) ∙ k)),
+      )
+
+-- ---- before the first line
+pub starts : (f : FeedState) → f ≡ record { line = []; ahead = []; used = 0 } → (bytes : List ℕ) (left : Option (List ℕ)) → left ≡ Some bytes → lines_left f left ≡ Some (lines bytes)
+starts f empty bytes left is = ap (λ (g : FeedState). lines_left g left) empty ∙ ap (lines_left (record { line = []; ahead = []; used = 0 })) is
+
+-- ---- the state of the run
+pub record Reads (s : Script) (left : Option (List Line)) (t : Table) (n : ℕ) : Type 0 where
+  pub rest : List Line
+  pub left_is : left ≡ Some rest
+  pub world : after_all t.world (script_from t.declared n rest).commands ≡ world_after s.commands
+
+pub reads_first : (ls : List Line) (left : Option (List Line)) → left ≡ Some ls → Reads (script_of ls) left first_table 1
+reads_first ls left is = record { rest = ls; left_is = is; world = refl }
+
+module _ (s : Script) (left : Option (List Line)) (t : Table) (n : ℕ) (r : Reads s left t n) (t' : Table) (new : Option (List Line)) (held : List ℕ) (h : GivesLine left new held (Ok read.Line)) where
+  pub reads_on : (text : List ℕ) → TurnGives t t' n held (outcome.Goes text) → Reads s new t' (n + 1)
+  reads_on text k =
+      let here = turn_here t n left r.rest r.left_is new held h (goes t'.declared k.0) k.1 in
+      record {
+        rest = here.0;
+        left_is = here.1;
+        world = ap (λ (v : World). after_all v (script_from t'.declared (n + 1) here.0).commands) k.3 ∙ (sym (ap (λ (q : Script). after_all t.world q.commands) here.2) ∙ r.world);
+      }
+
+  -- where the script ends the state is the last one
+  pub room_here : TurnGives t t' n held outcome.Ended → (room : Room) → RoomRepresents t'.world room → RoomRepresents (world_after s.commands) room
+  room_here k room stands =
+      let here = turn_here t n left r.rest r.left_is new held h (stops ended) k.0 in
+      subst (λ (w : World). RoomRepresents w room) (ap (λ (u : Table). u.world) k.1 ∙ (sym (ap (λ (q : Script). after_all t.world q.commands) here.2) ∙ r.world)) stands
+
+-- ---- and what was written
 pub record Runs (s : Script) (before : List ℕ) (left : Option (List Line)) (taken : Option (List ℕ)) (t : Table) (n : ℕ) : Type 0 where
   pub rest : List Line
   pub part : List ℕ
@@ -43,53 +104,27 @@ module _ (s : Script) (before : List ℕ) (left : Option (List Line)) (taken : O
         r.taken_is ∙ ap (λ p. Some (before ++ p)) (sym (append-nil r.part) ∙ (sym (ap (λ (q : Script). r.part ++ transcript_from t.world q.commands) here) ∙ r.text)),
       )
 
-  known : (new : Option (List Line)) (held : List ℕ) (x : _) → GivesLine left new held x → GivesLine (Some r.rest) new held x
-  known new held x h = rw r.left_is at h
-
-  at_end_of : (new : Option (List Line)) (held : List ℕ) → GivesLine (Some r.rest) new held (Ok read.End) → r.rest ≡ []
-  at_end_of None held h = absurd h
-  at_end_of (Some new) held h = h.0
-
   pub at_end : (new : Option (List Line)) (held : List ℕ) → GivesLine left new held (Ok read.End) → Played s before taken (status.Script (record { line = n; kind = kind.Unended }))
-  at_end new held h = stopped [] (at_end_of new held (known new held (Ok read.End) h)) (refused_at n kind.Unended) refl
-
-  long_of : (new : Option (List Line)) (held : List ℕ) → GivesLine (Some r.rest) new held (Err fault.TooLong) → (l : Line) × (rest : List Line) × (r.rest ≡ l ∷ rest) × (is_long l ≡ true)
-  long_of None held h = absurd h
-  long_of (Some new) held h = (h.0, h.1, h.2, h.3)
+  at_end new held h = stopped [] (at_end_of t n left r.rest r.left_is new held (known t n left r.rest r.left_is new held (Ok read.End) h)) (refused_at n kind.Unended) refl
 
   pub at_long : (new : Option (List Line)) (held : List ℕ) → GivesLine left new held (Err fault.TooLong) → Played s before taken (status.TooLong n)
   at_long new held h =
-      let (l, rest, e, long) = long_of new held (known new held (Err fault.TooLong) h) in
+      let (l, rest, e, long) = long_of t n left r.rest r.left_is new held (known t n left r.rest r.left_is new held (Err fault.TooLong) h) in
       stopped (l ∷ rest) e (too_long n) (ap (λ b. after_turn n (cond b (stops (too_long n)) (turn_of_line t.declared n (command_of l.bytes))) (λ d. script_from d (n + 1) rest)) long)
 
-  line_of : (new : Option (List Line)) (held : List ℕ) → GivesLine (Some r.rest) new held (Ok read.Line) → (l : Line) × (rest : List Line) × (new ≡ Some rest) × (r.rest ≡ l ∷ rest) × (held ≡ l.bytes) × (is_long l ≡ false)
-  line_of None held h = absurd h
-  line_of (Some new) held h = (h.0, new, refl, h.1, h.2, h.3)
-
-  -- the turn at a line that was read
-  turn_here : (new : Option (List Line)) (held : List ℕ) → GivesLine left new held (Ok read.Line) → (x : LineTurn) → turn_of_line t.declared n (command_of held) ≡ x → (rest : List Line) × (new ≡ Some rest) × (script_from t.declared n r.rest ≡ after_turn n x (λ d. script_from d (n + 1) rest))
-  turn_here new held h x k =
-      let (l, rest, now, e, line, short) = line_of new held (known new held (Ok read.Line) h) in (
-        rest,
-        now,
-        ap (script_from t.declared n) e
-            ∙ (ap (λ b. after_turn n (cond b (stops (too_long n)) (turn_of_line t.declared n (command_of l.bytes))) (λ d. script_from d (n + 1) rest)) short
-            ∙ ap (λ y. after_turn n y (λ d. script_from d (n + 1) rest)) (ap (λ bs. turn_of_line t.declared n (command_of bs)) (sym line) ∙ k)),
-      )
-
   stops_here : (new : Option (List Line)) (held : List ℕ) → GivesLine left new held (Ok read.Line) → (why : Stop) → turn_of_line t.declared n (command_of held) ≡ stops why → (s.stop ≡ why) × Wrote s before taken
-  stops_here new held h why k = stopped r.rest refl why ((turn_here new held h (stops why) k).2)
+  stops_here new held h why k = stopped r.rest refl why ((turn_here t n left r.rest r.left_is new held h (stops why) k).2)
 
   pub at_done : (t' : Table) (new : Option (List Line)) (held : List ℕ) → GivesLine left new held (Ok read.Line) → TurnGives t t' n held outcome.Ended → Played s before taken status.Done
-  at_done t' new held h k = stops_here new held h ended k
+  at_done t' new held h k = stops_here new held h ended k.0
 
   pub at_refused : (t' : Table) (new : Option (List Line)) (held : List ℕ) (err : ScriptErr) → GivesLine left new held (Ok read.Line) → TurnGives t t' n held (outcome.Refused err) → Played s before taken (status.Script err)
-  at_refused t' new held err h k = stops_here new held h (refused err) k
+  at_refused t' new held err h k = stops_here new held h (refused err) k.0
 
   -- what the line prints, and the rest after it
   module _ (t' : Table) (new : Option (List Line)) (held text : List ℕ) (h : GivesLine left new held (Ok read.Line)) (k : TurnGives t t' n held (outcome.Goes text)) where
     abbrev here : (rest : List Line) × (new ≡ Some rest) × (script_from t.declared n r.rest ≡ after_turn n (goes t'.declared k.0) (λ d. script_from d (n + 1) rest))
-    here = turn_here new held h (goes t'.declared k.0) k.1
+    here = turn_here t n left r.rest r.left_is new held h (goes t'.declared k.0) k.1
 
     text_here : (r.part ++ text) ++ transcript_from t'.world (script_from t'.declared (n + 1) here.0).commands ≡ transcript s.commands
     text_here =

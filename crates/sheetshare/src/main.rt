@@ -1,14 +1,8 @@
 //! Several sites edit one sheet: runs a script of edits, deliveries and reads.
 #![tactic(auto)]
 
-mod author;
-mod desk;
 mod exit;
 mod play;
-mod replica;
-mod run;
-#[cfg(test)]
-mod tests;
 
 use crate::exit::code;
 use crate::play::{Status, play};

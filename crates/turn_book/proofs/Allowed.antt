@@ -16,7 +16,7 @@ use Rattle.turn_book.specs.declared.kept.Made.{Made}
 use Rattle.turn_book.specs.declared.turns.Standing.{Standing}
 use Rattle.turn_book.specs.declared.turns.View.{View}
 use Rattle.turn_book.specs.Entries.{entries_of}
-use Rattle.turn_book.specs.Turns.{Follows, IsPassIn, AtHome, IsOut, IsKept, Took, takes_then, gives_then, resting, holding, spent, standing_of, found_of, after_hold, numbers_of}
+use Rattle.turn_book.specs.Turns.{FollowsHistory, IsPassIn, AtHome, IsOut, HasOneHistory, Took, takes_then, gives_then, resting, holding, spent, standing_of, found_of, after_hold, numbers_of}
 use Rattle.turn_book.proofs.Histories.{follows_more, follows_after, passes-entries_of}
 use Rattle.turn_book.proofs.Numbers.{same_right, others_differ, numbers_of-kept, two_first, within}
 
@@ -32,7 +32,7 @@ number_same a b = by_test (nat_eq a b) refl
 
 module _ {S I : Type 0} (opening_of : S → List ℕ) (history_of : S → List (Made I)) (opening : List ℕ) (passes : ℕ) where
   abbrev Kept : State (Option S) (View I) → Type 0
-  Kept = IsKept opening_of history_of opening passes
+  Kept = HasOneHistory opening_of history_of opening passes
 
   abbrev Known : List (Made I) → List (View I) → Type 0
   Known hist views = (j : ℕ) (v : View I) → get_elem? views j ≡ some v → All (IsPassIn opening passes hist) v.standings
@@ -147,7 +147,7 @@ module _ {S I : Type 0} (opening_of : S → List ℕ) (history_of : S → List (
                 (record {
                   number = mine.number;
                   opening_is = mine.opening_is;
-                  follows = subst (λ (h : List (Made I)). Follows h (after_hold p found h)) (sym is) (follows_after found p items mine.follows);
+                  follows = subst (λ (h : List (Made I)). FollowsHistory h (after_hold p found h)) (sym is) (follows_after found p items mine.follows);
                 })
                 (All-nil (IsPassIn opening passes (history_of y))))
             | inr e ↦ λ i d small.
@@ -157,7 +157,7 @@ module _ {S I : Type 0} (opening_of : S → List ℕ) (history_of : S → List (
                 record {
                   number = old.number;
                   opening_is = old.opening_is;
-                  follows = subst (λ (h : List (Made I)). Follows h q) (sym is) (follows_more found q p.number (length p.made) items apart old.follows);
+                  follows = subst (λ (h : List (Made I)). FollowsHistory h q) (sym is) (follows_more found q p.number (length p.made) items apart old.follows);
                 }
           ];
           place = inl (record {

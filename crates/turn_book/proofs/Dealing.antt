@@ -16,7 +16,7 @@ use Rattle.turn_book.specs.declared.kept.Made.{Made}
 use Rattle.turn_book.specs.declared.turns.Standing.{Standing}
 use Rattle.turn_book.specs.declared.turns.View.{View}
 use Rattle.turn_book.specs.Passes.{PassOf}
-use Rattle.turn_book.specs.Turns.{IsPassIn, IsKept, newcomer, newcomers, resting, both_views, without_first, first_alone, standing_of, pass_of, numbers_of}
+use Rattle.turn_book.specs.Turns.{IsPassIn, HasOneHistory, newcomer, newcomers, resting, both_views, without_first, first_alone, standing_of, pass_of, numbers_of}
 use Rattle.turn_book.proofs.Numbers.{same_right}
 
 module _ (I : Type 0) (opening : List ℕ) where
@@ -89,9 +89,9 @@ module _ (S I : Type 0) where
 module _ {S I : Type 0} (opening_of : S → List ℕ) (history_of : S → List (Made I)) (opening : List ℕ) (passes : ℕ) where
   -- a table that has just been made
   pub opens : (y : S) (slots : List (Option S)) → slots ≡ Some y ∷ [] → history_of y ≡ [] → opening_of y ≡ opening →
-      IsKept opening_of history_of opening passes (table.opening (0 ∷ []) slots (newcomers opening passes))
+      HasOneHistory opening_of history_of opening passes (table.opening (0 ∷ []) slots (newcomers opening passes))
   opens y slots is none o =
-      subst (λ (xs : List (Option S)). IsKept opening_of history_of opening passes (table.opening (0 ∷ []) xs (newcomers opening passes))) (sym is) (record {
+      subst (λ (xs : List (Option S)). HasOneHistory opening_of history_of opening passes (table.opening (0 ∷ []) xs (newcomers opening passes))) (sym is) (record {
         hist = [];
         entries = All-nil (λ (e : Made I). e.pass < passes);
         given = same_right (range_with_len 0 passes) (range_with_len 0 passes) (numbers_of (newcomers opening passes ∷ []))

@@ -11,7 +11,7 @@ use Rattle.atomic_table.proofs.Lists.{at_set, at_snoc, at_longer, set_else}
 use Rattle.turn_book.specs.declared.kept.Made.{Made}
 use Rattle.turn_book.specs.declared.turns.Standing.{Standing}
 use Rattle.turn_book.specs.declared.turns.View.{View}
-use Rattle.turn_book.specs.Turns.{IsPassIn, AtHome, IsOut, IsKept, resting, holding, spent, both_views, without_first, first_alone, numbers_of}
+use Rattle.turn_book.specs.Turns.{IsPassIn, AtHome, IsOut, HasOneHistory, resting, holding, spent, both_views, without_first, first_alone, numbers_of}
 use Rattle.turn_book.proofs.Numbers.{numbers_of-split, numbers_of-joined}
 
 module _ {S I : Type 0} (opening_of : S → List ℕ) (history_of : S → List (Made I)) (opening : List ℕ) (passes : ℕ) where
@@ -22,7 +22,7 @@ module _ {S I : Type 0} (opening_of : S → List ℕ) (history_of : S → List (
       let clash : Some hist ≡ None = ap (λ (v : View I). v.found) (some-injective (holding o.standing hist) (resting standings) (sym o.there ∙ (ap (get_elem? s.views) e ∙ there))) in
       cc
 
-  pub split_allowed : (id : ℕ) (p : Standing I) (ps : List (Standing I)) → Splits (IsKept opening_of history_of opening passes) id (resting (p ∷ ps)) (resting ps) (resting (p ∷ []))
+  pub split_allowed : (id : ℕ) (p : Standing I) (ps : List (Standing I)) → Splits (HasOneHistory opening_of history_of opening passes) id (resting (p ∷ ps)) (resting ps) (resting (p ∷ []))
   split_allowed id p ps s kept there = record {
     hist = kept.hist;
     entries = kept.entries;
@@ -81,7 +81,7 @@ module _ {S I : Type 0} (opening_of : S → List ℕ) (history_of : S → List (
       })
 
   pub join_allowed : (id other : ℕ) (ps qs : List (Standing I)) →
-      Joins (IsKept opening_of history_of opening passes) id (resting ps) other (resting qs) (both_views (resting ps) (resting qs)) spent
+      Joins (HasOneHistory opening_of history_of opening passes) id (resting ps) other (resting qs) (both_views (resting ps) (resting qs)) spent
   join_allowed id other ps qs s kept there apart here = record {
     hist = kept.hist;
     entries = kept.entries;
@@ -140,10 +140,10 @@ module _ {S I : Type 0} (opening_of : S → List ℕ) (history_of : S → List (
       })
 
   -- the two at seats as a call has them
-  pub split_at : (id : ℕ) (p : Standing I) (ps : List (Standing I)) (v : View I) → v ≡ resting (p ∷ ps) → Splits (IsKept opening_of history_of opening passes) id v (without_first v) (first_alone v)
-  split_at id p ps v is = subst (λ (v : View I). Splits (IsKept opening_of history_of opening passes) id v (without_first v) (first_alone v)) (sym is) (split_allowed id p ps)
+  pub split_at : (id : ℕ) (p : Standing I) (ps : List (Standing I)) (v : View I) → v ≡ resting (p ∷ ps) → Splits (HasOneHistory opening_of history_of opening passes) id v (without_first v) (first_alone v)
+  split_at id p ps v is = subst (λ (v : View I). Splits (HasOneHistory opening_of history_of opening passes) id v (without_first v) (first_alone v)) (sym is) (split_allowed id p ps)
 
-  pub join_at : (id other : ℕ) (ps qs : List (Standing I)) (v w : View I) → v ≡ resting ps → w ≡ resting qs → Joins (IsKept opening_of history_of opening passes) id v other w (both_views v w) spent
+  pub join_at : (id other : ℕ) (ps qs : List (Standing I)) (v w : View I) → v ≡ resting ps → w ≡ resting qs → Joins (HasOneHistory opening_of history_of opening passes) id v other w (both_views v w) spent
   join_at id other ps qs v w is other_is =
-      subst (λ (v : View I). Joins (IsKept opening_of history_of opening passes) id v other w (both_views v w) spent) (sym is)
-      (subst (λ (w : View I). Joins (IsKept opening_of history_of opening passes) id (resting ps) other w (both_views (resting ps) w) spent) (sym other_is) (join_allowed id other ps qs))
+      subst (λ (v : View I). Joins (HasOneHistory opening_of history_of opening passes) id v other w (both_views v w) spent) (sym is)
+      (subst (λ (w : View I). Joins (HasOneHistory opening_of history_of opening passes) id (resting ps) other w (both_views (resting ps) w) spent) (sym other_is) (join_allowed id other ps qs))

@@ -1,7 +1,7 @@
 -- Histories that a pass adds its entries to.
 use Rattle.std.proofs.Common.{◌≡◌, ◌≢◌, ℕ, ◌+◌, ◌<◌, true, false, List, [], ◌∷◌, ◌++◌, length, map, refl, ap, sym, ◌∙◌, subst, arith, append_assoc}
 use Rattle.std.specs.Prelude.{All, nat_eq}
-use Rattle.std.proofs.lemmas.List.{append-nil, map-append, length-append}
+use Rattle.std.proofs.lemmas.List.{append-nil, map-append}
 use Rattle.std.proofs.lemmas.List as lists
 use Rattle.std.proofs.lemmas.List.Elements.{All-cons, All-nil, filter-append}
 use Rattle.std.proofs.lemmas.Bool.Decides.{nat_tests}
@@ -9,7 +9,7 @@ use Rattle.turn_book.specs.declared.kept.Made.{Made}
 use Rattle.turn_book.specs.declared.turns.Standing.{Standing}
 use Rattle.ss_base.specs.Lists.{IsPrefixOf}
 use Rattle.turn_book.specs.Entries.{made_by, entries_of}
-use Rattle.turn_book.specs.Turns.{Follows, after_hold}
+use Rattle.turn_book.specs.Turns.{FollowsHistory, after_hold}
 
 pub whole : {A : Type 0} (xs : List A) → IsPrefixOf xs xs
 whole xs = ([], append-nil xs)
@@ -51,7 +51,7 @@ module _ {I : Type 0} where
       All-cons (λ (e : Made I). e.pass < passes) (record { pass = n; number = k; item = i }) (entries_of n (k + 1) items) small (passes-entries_of n (k + 1) passes items small)
 
   -- another pass follows on
-  pub follows_more : (hist : List (Made I)) (q : Standing I) (n k : ℕ) (items : List I) → q.number ≢ n → Follows hist q → Follows (hist ++ entries_of n k items) q
+  pub follows_more : (hist : List (Made I)) (q : Standing I) (n k : ℕ) (items : List I) → q.number ≢ n → FollowsHistory hist q → FollowsHistory (hist ++ entries_of n k items) q
   follows_more hist q n k items apart f = record {
     seen = prefix_more q.seen hist (entries_of n k items) f.seen;
     made = filter-append (λ (e : Made I). nat_eq e.pass q.number) hist (entries_of n k items)
@@ -64,8 +64,8 @@ module _ {I : Type 0} where
   pub made_after : (hist : List (Made I)) (p : Standing I) (items : List I) → (after_hold p hist (hist ++ entries_of p.number (length p.made) items)).made ≡ p.made ++ entries_of p.number (length p.made) items
   made_after hist p items = ap (λ (es : List (Made I)). p.made ++ es) (lists.drop_at hist (entries_of p.number (length p.made) items) (length hist) refl)
 
-  pub follows_after : (hist : List (Made I)) (p : Standing I) (items : List I) → Follows hist p →
-      Follows (hist ++ entries_of p.number (length p.made) items) (after_hold p hist (hist ++ entries_of p.number (length p.made) items))
+  pub follows_after : (hist : List (Made I)) (p : Standing I) (items : List I) → FollowsHistory hist p →
+      FollowsHistory (hist ++ entries_of p.number (length p.made) items) (after_hold p hist (hist ++ entries_of p.number (length p.made) items))
   follows_after hist p items f =
       let more = entries_of p.number (length p.made) items in
       let is : (after_hold p hist (hist ++ more)).made ≡ p.made ++ more = made_after hist p items in record {

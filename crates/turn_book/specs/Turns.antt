@@ -7,7 +7,7 @@ use Rattle.atomic_table.specs.Table.{State, Me, Step}
 use Rattle.atomic_table.specs.Seated.{TableId}
 use Rattle.ss_base.specs.Lists.{IsPrefixOf}
 use Rattle.turn_book.specs.Entries.{made_by, entries_of}
-use Rattle.turn_book.specs.Passes.{BookId, PassOf}
+use Rattle.turn_book.specs.Passes.{BookId, PassOf, HeldOf}
 use Rattle.turn_book.specs.declared.kept.Made.{Made}
 use Rattle.turn_book.specs.declared.turns.Standing.{Standing}
 use Rattle.turn_book.specs.declared.turns.View.{View}
@@ -50,13 +50,22 @@ module _ {I : Type 0} where
   abbrev pub pass_of : BookId → Standing I → PassOf I
   pass_of book p = record { book = book; number = p.number; opening = p.opening; seen = p.seen; made = p.made; holds = p.holds }
 
+  -- the passes that a book of this opening gives out
+  abbrev pub dealt_of : BookId → List ℕ → ℕ → List (PassOf I)
+  dealt_of book opening passes = map (λ n. pass_of book (newcomer opening n)) (range_with_len 0 passes)
+
+  -- the history is the one that the seat found, followed by entries of its pass
+  abbrev pub AddsTo : View I → List (Made I) → Type 0
+  AddsTo v history =
+      let p = standing_of v in (items : List I) × (history ≡ found_of v ++ entries_of p.number (length p.made) items)
+
   -- the numbers of all passes, seat by seat
   abbrev pub numbers_of : List (View I) → List ℕ
   numbers_of views = flat_map (λ (v : View I). map (λ (p : Standing I). p.number) v.standings) views
 
   -- The history begins with what the pass has seen, and its entries of this pass are those that the pass made, numbered from 0.
   -- What a pass has seen it saw in a hold
-  pub record Follows (hist : List (Made I)) (p : Standing I) : Type 0 where
+  pub record FollowsHistory (hist : List (Made I)) (p : Standing I) : Type 0 where
     pub seen : IsPrefixOf p.seen hist
     pub made : made_by p.number hist ≡ p.made
     pub numbered : p.made ≡ entries_of p.number 0 (map (λ (e : Made I). e.item) p.made)
@@ -66,7 +75,24 @@ module _ {I : Type 0} where
   pub record IsPassIn (opening : List ℕ) (passes : ℕ) (hist : List (Made I)) (p : Standing I) : Type 0 where
     pub number : p.number < passes
     pub opening_is : p.opening ≡ opening
-    pub follows : Follows hist p
+    pub follows : FollowsHistory hist p
+
+module _ {S I : Type 0} where
+  -- a seat with one pass, which does not have the state
+  abbrev pub HasPass : Me (Option S) (View I) → Type 0
+  HasPass me = (standing : Standing I) × (me ≡ (resting (standing ∷ []), []))
+
+  -- a seat whose pass has the state
+  abbrev pub HasState : Me (Option S) (View I) → Type 0
+  HasState me = (standing : Standing I) × (found : List (Made I)) × (me ≡ (holding standing found, (0, None) ∷ []))
+
+  -- the seat after the hold, in which it left this history
+  abbrev pub rested : View I → List (Made I) → Me (Option S) (View I)
+  rested v history = (resting (after_hold (standing_of v) (found_of v) history ∷ []), [])
+
+  -- a hold as contracts see it
+  abbrev pub held_of : BookId → View I → S → HeldOf S I
+  held_of book v state = record { pass = pass_of book (standing_of v); found = found_of v; state = state }
 
 module _ {S I : Type 0} (opening_of : S → List ℕ) (history_of : S → List (Made I)) where
   -- the state is at home, and no seat has it
@@ -88,7 +114,7 @@ module _ {S I : Type 0} (opening_of : S → List ℕ) (history_of : S → List (
     pub no_other : (j : ℕ) (v : View I) → get_elem? s.views j ≡ maybe.some v → j ≢ who → v.found ≡ None
 
   -- there is one history, whose entries are of passes that were given out. Each pass is known to one seat, and follows the history
-  pub record IsKept (opening : List ℕ) (passes : ℕ) (s : State (Option S) (View I)) : Type 0 where
+  pub record HasOneHistory (opening : List ℕ) (passes : ℕ) (s : State (Option S) (View I)) : Type 0 where
     pub hist : List (Made I)
     pub entries : All (λ (e : Made I). e.pass < passes) hist
     pub given : IsPermutation (range_with_len 0 passes) (numbers_of s.views)
@@ -100,7 +126,7 @@ module _ {S I : Type 0} (opening_of : S → List ℕ) (history_of : S → List (
     pub state : S
     pub after_is : after ≡ (holding p (history_of state), (0, Some state) ∷ [])
     pub opening_is : opening_of state ≡ p.opening
-    pub follows : Follows (history_of state) p
+    pub follows : FollowsHistory (history_of state) p
 
   -- the state was taken, or nothing happened
   abbrev pub takes_then : Step (Option S) → Me (Option S) (View I) → ℕ → Me (Option S) (View I) → Type 0
@@ -134,6 +160,10 @@ module _ {I : Type 0} where
 -- one word and one slot
 abbrev pub IsLaidOut : TableId → Type 0
 IsLaidOut table = (table.words ≡ 1) × (table.slots ≡ 1)
+
+-- the table of a book, which was told how many passes there are
+abbrev pub IsOfBook : TableId → ℕ → ℕ → Type 0
+IsOfBook table told passes = (table.words ≡ 1) × (table.slots ≡ 1) × (passes ≡ told) × (0 < passes)
 
 -- the state, where all passes are at one seat
 pub record Ends {S I : Type 0} (opening_of : S → List ℕ) (history_of : S → List (Made I)) (opening : List ℕ) (passes : ℕ) (standings : List (Standing I)) (state : S) : Type 0 where

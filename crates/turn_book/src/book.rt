@@ -20,14 +20,14 @@ pub struct Book<S: Kept> {
 }
 
 impl<S: Kept> Model for Book<S> {
-    ghost use Rattle.std.specs.Prelude.{◌≡◌, ◌<◌};
     ghost use Rattle.turn_book.specs.Passes.{BookOf};
+    ghost use Rattle.turn_book.specs.Turns.{IsOfBook};
 
     ghost Value = { BookOf };
 
     ghost view = { λ b. record { id = b.table.shared.table_id; opening = S.opening b.table.shared.key.state.value; passes = b.passes } };
 
-    ghost invariant = { λ b. (b.table.shared.table_id.words ≡ 1) × (b.table.shared.table_id.slots ≡ 1) × (b.passes ≡ b.table.shared.key.passes) × (0 < b.passes) };
+    ghost invariant = { λ b. IsOfBook b.table.shared.table_id b.table.shared.key.passes b.passes };
 }
 
 impl<S: Kept + Drop> Book<S> {

@@ -14,17 +14,15 @@ pub struct Held<'a, S: Kept> {
 }
 
 impl<'a, S: Kept> Model for Held<'a, S> {
-    ghost use Rattle.std.specs.Prelude.{◌≡◌, ◌∷◌, [], List, None};
+    ghost use Rattle.std.specs.Prelude.{◌≡◌};
     ghost use Rattle.turn_book.specs.Passes.{HeldOf};
-    ghost use Rattle.turn_book.specs.declared.kept.Made.{Made};
-    ghost use Rattle.turn_book.specs.declared.turns.Standing.{Standing};
-    ghost use Rattle.turn_book.specs.Turns.{holding, standing_of, found_of, pass_of};
+    ghost use Rattle.turn_book.specs.Turns.{held_of, HasState};
 
     ghost Value = { HeldOf S S.Item };
 
-    ghost view = { λ h. record { pass = pass_of h.seat.table_id (standing_of h.seat.me.0); found = found_of h.seat.me.0; state = h.state } };
+    ghost view = { λ h. held_of h.seat.table_id h.seat.me.0 h.state };
 
-    ghost invariant = { λ h. (h.seat.table_id ≡ h.book.now.id) × ((standing : Standing S.Item) × (found : List (Made S.Item)) × (h.seat.me ≡ (holding standing found, (0, None) ∷ []))) };
+    ghost invariant = { λ h. (h.seat.table_id ≡ h.book.now.id) × HasState h.seat.me };
 }
 
 impl<'a, S: Kept> Held<'a, S> {

@@ -11,14 +11,12 @@ pub struct Pass<S: Kept> {
 }
 
 impl<S: Kept> Model for Pass<S> {
-    ghost use Rattle.std.specs.Prelude.{◌≡◌, ◌∷◌, []};
     ghost use Rattle.turn_book.specs.Passes.{PassOf};
-    ghost use Rattle.turn_book.specs.declared.turns.Standing.{Standing};
-    ghost use Rattle.turn_book.specs.Turns.{resting, standing_of, pass_of};
+    ghost use Rattle.turn_book.specs.Turns.{standing_of, pass_of, HasPass};
 
     ghost Value = { PassOf S.Item };
 
     ghost view = { λ p. pass_of p.seat.table_id (standing_of p.seat.me.0) };
 
-    ghost invariant = { λ p. (standing : Standing S.Item) × (p.seat.me ≡ (resting (standing ∷ []), [])) };
+    ghost invariant = { λ p. HasPass p.seat.me };
 }

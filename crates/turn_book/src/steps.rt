@@ -1,8 +1,6 @@
 //! What seats do at the table.
-ghost use Rattle.std.specs.Prelude.{◌≡◌, ◌<◌, ◌++◌, ◌∷◌, [], List, None, All, IfOk, length, map};
-ghost use Rattle.std.specs.List.{range_with_len};
-ghost use Rattle.turn_book.specs.Entries.{entries_of};
-ghost use Rattle.turn_book.specs.Turns.{Ends, Follows, IsLaidOut, newcomer, newcomers, resting, holding, standing_of, pass_of, found_of, after_hold};
+ghost use Rattle.std.specs.Prelude.{◌≡◌, ◌<◌, ◌∷◌, [], None, All, IfOk, length, map};
+ghost use Rattle.turn_book.specs.Turns.{Ends, FollowsHistory, IsLaidOut, AddsTo, newcomers, resting, holding, rested, dealt_of, standing_of, pass_of, found_of};
 
 use crate::kept::Kept;
 use crate::pass::Pass;
@@ -18,7 +16,7 @@ pub fn take<S: Kept, R: Wait>(rt: &R, table: &SharedTable<S>, seat: &mut BookSea
     ensures same { seat.new.table_id ≡ seat.old.table_id }
     ensures holds { seat.new.me ≡ (holding (standing_of seat.old.me.0) (S.history result), (0, None) ∷ []) }
     ensures opening { S.opening result ≡ (standing_of seat.old.me.0).opening }
-    ensures follows { Follows (S.history result) (standing_of seat.old.me.0) }
+    ensures follows { FollowsHistory (S.history result) (standing_of seat.old.me.0) }
 {
     for _ in rt.forever() {
         if table.compare_exchange::<Take>(seat, 0, 0, 1) == 0 {
@@ -34,9 +32,9 @@ pub fn give<S: Kept>(table: &SharedTable<S>, seat: &mut BookSeat<S>, state: S)
     requires table { (seat.old.table_id ≡ table.now.table_id) × IsLaidOut table.now.table_id }
     requires holds { seat.old.me ≡ (holding (standing_of seat.old.me.0) (found_of seat.old.me.0), (0, None) ∷ []) }
     requires opening { S.opening state ≡ (standing_of seat.old.me.0).opening }
-    requires adds { let p = standing_of seat.old.me.0 in (items : List S.Item) × (S.history state ≡ found_of seat.old.me.0 ++ entries_of p.number (length p.made) items) }
+    requires adds { AddsTo seat.old.me.0 (S.history state) }
     ensures same { seat.new.table_id ≡ seat.old.table_id }
-    ensures rests { seat.new.me ≡ (resting (after_hold (standing_of seat.old.me.0) (found_of seat.old.me.0) (S.history state) ∷ []), []) }
+    ensures rests { seat.new.me ≡ rested seat.old.me.0 (S.history state) }
 {
     let taken = table.exchange(seat, 0, Some(state));
     let None = taken else { unreachable!() };
@@ -53,7 +51,7 @@ pub fn deal<S: Kept + Drop>(
 ) -> Result<Seq<Pass<S>>, Memory>
     requires table { (seat.table_id ≡ table.now.table_id) × IsLaidOut table.now.table_id × (passes ≡ table.now.key.passes) }
     requires all { seat.me ≡ (newcomers (S.opening table.now.key.state.value) passes, []) }
-    ensures { IfOk result (λ dealt. dealt ≡ map (λ n. pass_of table.now.table_id (newcomer (S.opening table.now.key.state.value) n)) (range_with_len 0 passes)) }
+    ensures { IfOk result (λ dealt. dealt ≡ dealt_of table.now.table_id (S.opening table.now.key.state.value) passes) }
 {
     let mut dealt = Seq::new(alloc);
     for _number in 0..passes {

@@ -6,8 +6,12 @@ use crate::{Book, Closed, Kept, Made, Pass};
 use ss_base::{Memory, Seq};
 use std::alloc::Global;
 use std::sync::Wait;
+use std::sync::atomic::AtomicBool;
+use std::sync::atomic::Ordering::SeqCst;
 use std::test::Fail;
+use std::thread;
 use std::thread::{Threads, join};
+use std::time::{Clock, Duration};
 
 /// Numbers that passes noted.
 #[derive(Drop)]
@@ -171,5 +175,128 @@ fn two_threads_make_twenty_entries(rt: HostRuntime) -> Result<(), Fail> {
         next[who] = next[who].wrapping_add(1);
     }
     assert_eq!(rt; next, [10, 10]);
+    Ok(())
+}
+
+// Looks for the flag every millisecond, for some seconds, and says whether it was raised.
+fn is_raised<R: Clock>(rt: &R, flag: &AtomicBool) -> bool {
+    for _ in 0..5000 {
+        if flag.load(SeqCst) {
+            return true;
+        }
+        thread::sleep(rt, Duration::from_millis(1));
+    }
+    false
+}
+
+// Holds the state until the other thread has said that it is about to enter, and a little longer, so
+// that it waits there; then leaves. Says whether the other thread was heard.
+fn hold<R: Wait + Clock>(
+    rt: &R,
+    book: &Book<Notes>,
+    pass: Pass<Notes>,
+    inside: &AtomicBool,
+    comes: &AtomicBool,
+) -> (Pass<Notes>, bool)
+    requires { pass.book ≡ book.now.id }
+    ensures { IsSamePass pass result.0 }
+{
+    let held = book.enter(rt, pass);
+    inside.store(true, SeqCst);
+    let heard = is_raised(rt, comes);
+    thread::sleep(rt, Duration::from_millis(50));
+    (held.leave(), heard)
+}
+
+// Waits until the other thread holds the state, says that it is about to enter, and enters.
+fn come<R: Wait + Clock>(
+    rt: &R,
+    book: &Book<Notes>,
+    pass: Pass<Notes>,
+    inside: &AtomicBool,
+    comes: &AtomicBool,
+) -> (Pass<Notes>, bool)
+    requires { pass.book ≡ book.now.id }
+    ensures { IsSamePass pass result.0 }
+{
+    let heard = is_raised(rt, inside);
+    comes.store(true, SeqCst);
+    let (pass, _) = look(rt, book, pass);
+    (pass, heard)
+}
+
+fn hold_beside<R: Threads + Wait + Clock + Sync>(
+    rt: &R,
+    book: &Book<Notes>,
+    first: Pass<Notes>,
+    second: Pass<Notes>,
+) -> bool
+    requires first { first ≡ new_pass book.now 0 }
+    requires second { second ≡ new_pass book.now 1 }
+{
+    let inside = AtomicBool::new(false);
+    let comes = AtomicBool::new(false);
+    let ((_, first), (_, second)) = join(
+        rt,
+        || hold(rt, book, first, &inside, &comes),
+        || come(rt, book, second, &inside, &comes),
+    );
+    first && second
+}
+
+// It ends only where the pass that waits is woken.
+#[test]
+fn a_pass_that_waits_is_woken(rt: HostRuntime) -> Result<(), Fail> {
+    let (book, first, second) = two_passes(rt.alloc())?.ok_or("no passes")?;
+    assert!(rt; hold_beside(&rt, &book, first, second));
+    Ok(())
+}
+
+// Notes an item, and enters again and again, for some seconds, until there are two. Says whether there are.
+fn meet<R: Wait + Clock>(
+    rt: &R,
+    book: &Book<Notes>,
+    pass: Pass<Notes>,
+    who: u32,
+) -> (Pass<Notes>, bool)
+    requires book { pass.book ≡ book.now.id }
+    requires who { who ≡ pass.number }
+    requires new { pass.made ≡ [] }
+    ensures { IsSamePass pass result.0 }
+{
+    let (mut mine, _, _) = note(rt, book, pass, who, 0, who);
+    for _ in 0..5000 {
+        let (next, found) = look(rt, book, mine);
+        mine = next;
+        if found == 2 {
+            return (mine, true);
+        }
+        thread::sleep(rt, Duration::from_millis(1));
+    }
+    (mine, false)
+}
+
+fn meet_beside<R: Threads + Wait + Clock + Sync>(
+    rt: &R,
+    book: &Book<Notes>,
+    first: Pass<Notes>,
+    second: Pass<Notes>,
+) -> bool
+    requires first { first ≡ new_pass book.now 0 }
+    requires second { second ≡ new_pass book.now 1 }
+{
+    let ((_, first), (_, second)) = join(
+        rt,
+        move || meet(rt, book, first, 0),
+        move || meet(rt, book, second, 1),
+    );
+    first && second
+}
+
+// Neither thread can see both entries if one runs after the other has ended.
+#[test]
+fn two_threads_find_the_entry_of_each_other(rt: HostRuntime) -> Result<(), Fail> {
+    let (book, first, second) = two_passes(rt.alloc())?.ok_or("no passes")?;
+    assert!(rt; meet_beside(&rt, &book, first, second));
     Ok(())
 }

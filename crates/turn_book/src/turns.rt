@@ -35,9 +35,9 @@ pub struct Start<S> {
 pub struct Turns;
 
 impl<S: Kept> TableRule<Option<S>, View<S::Item>, Start<S>> for Turns {
-    ghost use Rattle.turn_book.specs.Turns.{IsKept, newcomers};
+    ghost use Rattle.turn_book.specs.Turns.{HasOneHistory, newcomers};
 
-    ghost holds = { λ key. IsKept S.opening S.history (S.opening key.state.value) key.passes };
+    ghost holds = { λ key. HasOneHistory S.opening S.history (S.opening key.state.value) key.passes };
 
     ghost first = { λ key. newcomers (S.opening key.state.value) key.passes };
 }

@@ -1,4 +1,4 @@
-use Rattle.std.proofs.Common.{◌≡◌, ◌≤◌, ◌∙◌, ◌+◌, arith}
+use Rattle.std.proofs.Common.{◌∙◌, ◌+◌, arith}
 use Rattle.funcs.specs.Areas.{item_value, items_of}
 use Rattle.funcs.specs.Counts.{counts}
 use Rattle.funcs.proofs.Counting.{count-next_list}

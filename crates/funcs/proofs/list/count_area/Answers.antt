@@ -1,4 +1,4 @@
-use Rattle.std.proofs.Common.{◌≡◌, ◌≤◌, ◌∙◌, ◌+◌, Bool, ap, arith, cond}
+use Rattle.std.proofs.Common.{◌≡◌, ◌∙◌, ◌+◌, Bool, ap, arith, cond}
 use mir.Val.{bool_byte}
 use Rattle.funcs.specs.Refs.{owned}
 use Rattle.funcs.specs.Areas.{items}

@@ -1,10 +1,10 @@
 use Rattle.std.proofs.Math.ListN.{length-set}
 use Rattle.std.proofs.Common.{rules, ◌∙◌, ap, sym, length, arith}
-use Rattle.std.specs.Prelude.{map, List}
+use Rattle.std.specs.Prelude.{List}
 use Rattle.sheet_ops.specs.declared.content.Put.{Put}
-use Rattle.sheet_ops.specs.Effects.{cells_written}
-use Rattle.sheet_grid.specs.Rows.{held, grid}
-use Rattle.sheet_grid.proofs.Stored.{held-set_same, first_in_rows, first_in_cols, written_all, no_empty_added, kept_within, key_there, all_back}
+use Rattle.sheet_grid.specs.Kept.{cell_kept}
+use Rattle.sheet_grid.specs.Rows.{puts_kept}
+use Rattle.sheet_grid.proofs.StoredCells.{held-set_same, first_in_rows, written_all, no_empty_added, key_there, all_back}
 use Rattle.sheet_grid.proofs.write.+write_puts.Goals as goal
 
 pub returns-in_err-old-clause-err : goal.returns-in_err-old-clause-err
@@ -21,23 +21,14 @@ pub returns-in-Ok-clause-ok : goal.returns-in-Ok-clause-ok
 returns-in-Ok-clause-ok t c =
     let inside = first_in_rows (length c.args.rows.now) c.args.puts.now c.in-Some.put.now c.in-Some.rest.now c.in-Some.ensures.cases.0 c.requires in
     rw c.in-Ok.is
-    (λ cols.
-    written_all c.args.rows.now c.in-Some.put.now c.in_ok-what.what c.index-rows-row.result c.store.new.row inside c.in_ok-old.ensures.ok c.write_puts-done.new.rows c.index-rows-row-in-Ok.result c.settle.new.row (omega (arith, length-set c.args.rows.now c.in-Some.put.now.row c.store.new.row)) c.settle.ensures c.in-Some.rest.now c.in_ok-what.ensures c.in-Ok.ensures.ok cols
-    ∙ ap (λ (ps : List Put). cells_written (grid cols (map held c.args.rows.now)) ps) (sym c.in-Some.ensures.cases.0))
+    (written_all c.args.rows.now c.in-Some.put.now c.in_ok-what.what c.index-rows-row.result c.store.new.row inside c.in_ok-old.ensures.ok c.write_puts-done.new.rows c.index-rows-row-in-Ok.result c.settle.new.row (omega (arith, length-set c.args.rows.now c.in-Some.put.now.row c.store.new.row)) c.settle.ensures c.in-Some.rest.now c.in_ok-what.ensures c.in-Ok.ensures.ok
+    ∙ ap (λ (ps : List Put). puts_kept (cell_kept c.args.rows.now) ps) (sym c.in-Some.ensures.cases.0))
 
 pub returns-in-Ok-clause-empties : goal.returns-in-Ok-clause-empties
 returns-in-Ok-clause-empties t c =
     let inside = first_in_rows (length c.args.rows.now) c.args.puts.now c.in-Some.put.now c.in-Some.rest.now c.in-Some.ensures.cases.0 c.requires in
     rw c.in-Ok.is
     (no_empty_added c.args.rows.now c.in-Some.put.now c.in_ok-what.what c.index-rows-row.result c.store.new.row inside c.in_ok-old.ensures.ok c.write_puts-done.new.rows c.index-rows-row-in-Ok.result c.settle.new.row (omega (arith, length-set c.args.rows.now c.in-Some.put.now.row c.store.new.row)) c.settle.ensures c.in-Ok.ensures.empties)
-
-pub returns-in-Ok-clause-within : goal.returns-in-Ok-clause-within
-returns-in-Ok-clause-within t c =
-    let inside = first_in_rows (length c.args.rows.now) c.args.puts.now c.in-Some.put.now c.in-Some.rest.now c.in-Some.ensures.cases.0 c.requires in
-    rw c.in-Ok.is
-    (λ cols all old.
-    let parts = first_in_cols cols c.args.puts.now c.in-Some.put.now c.in-Some.rest.now c.in-Some.ensures.cases.0 all in
-    kept_within c.args.rows.now c.in-Some.put.now c.in_ok-what.what c.index-rows-row.result c.store.new.row inside c.in_ok-old.ensures.ok c.write_puts-done.new.rows c.index-rows-row-in-Ok.result c.settle.new.row (omega (arith, length-set c.args.rows.now c.in-Some.put.now.row c.store.new.row)) c.settle.ensures cols parts.0 (c.in-Ok.ensures.within cols parts.1) old)
 
 pub returns-in-Err-clause-err : goal.returns-in-Err-clause-err
 returns-in-Err-clause-err t c =

@@ -1,5 +1,5 @@
 use Rattle.std.proofs.Common.{take, sym, ◌∙◌}
-use Rattle.sheet_text.proofs.Rest.{some_text, filled_line}
+use Rattle.sheet_text.proofs.RowLines.{some_text, filled_line}
 use Rattle.sheet_text.proofs.lines.push_cell.Goals as goal
 
 pub returns : goal.returns

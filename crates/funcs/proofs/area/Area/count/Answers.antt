@@ -1,7 +1,7 @@
 use Rattle.std.proofs.Common.{◌∙◌, sym, ap, length, List}
 use Rattle.sheet_value.specs.declared.value.Value.{Value}
 use Rattle.funcs.specs.Areas.{items}
-use Rattle.funcs.proofs.Shapes.{is_shape, few}
+use Rattle.funcs.proofs.Shapes.{is_shape}
 use Rattle.funcs.proofs.area.Area.count.Goals as goal
 
 pub returns-clause-count : goal.returns-clause-count

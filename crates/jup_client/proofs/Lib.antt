@@ -1,0 +1,4 @@
+pub mod Causes
+pub mod OnePassed
+pub mod Stays
+pub mod Longer

@@ -1,0 +1,4 @@
+pub mod Along
+pub mod Submitted
+pub mod Causes
+pub mod Answered

@@ -1,0 +1,3 @@
+pub mod Servers
+pub mod Steps
+pub mod Answers

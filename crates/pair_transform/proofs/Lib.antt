@@ -1,0 +1,6 @@
+mod Kept
+mod Mapped
+mod Pair
+mod Remapped
+mod Sorted
+pub mod Replaced

@@ -1,0 +1,4 @@
+pub mod AxisMaps
+pub mod SheetMaps
+pub mod Sorts
+pub mod Changes

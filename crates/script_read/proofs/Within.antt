@@ -1,0 +1,130 @@
+-- How large the sheet of a line is, and how long its entry.
+use Rattle.std.proofs.Common.{◌≡◌, ℕ, ◌≤◌, Bool, true, false, cond, List, [], ◌∷◌, length, refl, sym, subst, arith, Option, Some, None}
+use Rattle.std.specs.Prelude.{nat_le, ◌&&◌, option_map, codes}
+use Rattle.std.specs.List.{list_all, join_with_byte}
+use Rattle.std.specs.Str.{bytes_eq}
+use Rattle.std.specs.Str.Parse.{digits_value}
+use Rattle.std.proofs.lemmas.Bool.Decides.{nat_tests}
+use Rattle.std.proofs.lemmas.List.{length-append}
+use Rattle.std.proofs.lemmas.List.Splits.{join_with_byte-slice_split}
+use Rattle.ss_base.specs.declared.types.Spot.{Spot}
+use Rattle.cell_addr.specs.Cells.{cell_of}
+use Rattle.cell_addr.specs.Columns.{col_named}
+use Rattle.cell_addr.specs.Rows.{is_count, counted, row_numbered}
+use Rattle.cell_addr.proofs.Digits.{count_size}
+use Rattle.sheet_ops.specs.declared.edit.Edit.{Edit}
+use Rattle.sheet_ops.specs.declared.edit.Edit.TheVariants as edit
+use Rattle.script_read.specs.declared.command.Command.{Command}
+use Rattle.script_read.specs.declared.command.Command.TheVariants as command
+use Rattle.script_read.specs.Commands.{command_of, is_note, sheet_sized, push_of, pull_of, plain_cell, set_of, clear_of, line_edit_of, of_one_word, of_two_words, of_one_line, of_three_words, of_more_words, of_words, IsWithin}
+use Rattle.script_read.specs.Words.{is_printable, words, named}
+
+module _ (most : ℕ) where
+  abbrev IsGood : Option Command → Type 0
+  IsGood None = Unit {0}
+  IsGood (Some c) = IsWithin most c
+
+  good_if : (b : Bool) (x y : Option Command) → IsGood x → IsGood y → IsGood (cond b x y)
+  good_if true x y g h = g
+  good_if false x y g h = h
+
+  good_map : {A : Type 0} (f : A → Command) → ((x : A) → IsWithin most (f x)) → (o : Option A) → IsGood (option_map f o)
+  good_map f h None = tt
+  good_map f h (Some x) = h x
+
+  -- a count isn't 0
+  abbrev IsCount : Option ℕ → Type 0
+  IsCount None = Unit {0}
+  IsCount (Some n) = 1 ≤ n
+
+  is_positive : (text : List ℕ) → IsCount (counted text)
+  is_positive text = by_test (is_count text) refl
+    where
+      by_test : (b : Bool) → is_count text ≡ b → IsCount (cond b (Some (digits_value 10 text)) None)
+      by_test true e = (count_size text e).0
+      by_test false e = tt
+
+  good_sheet : (rows cols : Option ℕ) → IsCount rows → IsCount cols → IsGood (sheet_sized rows cols)
+  good_sheet None cols r c = tt
+  good_sheet (Some rows) None r c = tt
+  good_sheet (Some rows) (Some cols) r c = by_rows (nat_le rows 1000) (nat_le cols 64) refl refl
+    where
+      by_rows : (a b : Bool) → nat_le rows 1000 ≡ a → nat_le cols 64 ≡ b → IsGood (cond (a && b) (Some (command.Sheet (record { rows = rows; cols = cols }))) None)
+      by_rows true true h k = (r, grind (arith, nat_tests), c, grind (arith, nat_tests))
+      by_rows true false h k = tt
+      by_rows false b h k = tt
+
+  good_push : (name : Option (List ℕ)) (count : Option ℕ) → IsGood (push_of name count)
+  good_push None count = tt
+  good_push (Some name) None = tt
+  good_push (Some name) (Some n) = tt
+
+  good_pull : (name : Option (List ℕ)) (count : Option ℕ) → IsGood (pull_of name count)
+  good_pull None count = tt
+  good_pull (Some name) None = tt
+  good_pull (Some name) (Some n) = tt
+
+  good_set : (name : Option (List ℕ)) (spot : Option Spot) (entry : List ℕ) → length entry ≤ most → IsGood (set_of name spot entry)
+  good_set None spot entry h = tt
+  good_set (Some name) None entry h = tt
+  good_set (Some name) (Some spot) [] h = tt
+  good_set (Some name) (Some spot) (b ∷ entry) h = h
+
+  good_clear : (name : Option (List ℕ)) (spot : Option Spot) → IsGood (clear_of name spot)
+  good_clear None spot = tt
+  good_clear (Some name) None = tt
+  good_clear (Some name) (Some spot) = tt
+
+  good_line_edit : (what : ℕ → Edit) → ((n : ℕ) → IsWithin most (command.Edit [] (what n))) → (name : Option (List ℕ)) (index : Option ℕ) → IsGood (line_edit_of what name index)
+  good_line_edit what h None index = tt
+  good_line_edit what h (Some name) None = tt
+  good_line_edit what h (Some name) (Some n) = h n
+
+  good_one : (a : List ℕ) → IsGood (of_one_word a)
+  good_one a = good_if (bytes_eq a (codes "end")) (Some command.End) None tt tt
+
+  good_two : (a b : List ℕ) → IsGood (of_two_words a b)
+  good_two a b =
+      good_if (bytes_eq a (codes "site")) _ _ (good_map command.Site (λ _. tt) (named b))
+      (good_if (bytes_eq a (codes "show")) _ _ (good_if (bytes_eq b (codes "server")) (Some command.ShowServer) _ tt (good_map command.Show (λ _. tt) (named b)))
+      (good_if (bytes_eq a (codes "push")) _ _ (good_if (bytes_eq b (codes "all")) (Some command.PushAll) None tt tt)
+      (good_if (bytes_eq a (codes "pull")) _ _ (good_if (bytes_eq b (codes "all")) (Some command.PullAll) None tt tt)
+      (good_if (bytes_eq b (codes "push")) _ _ (good_map (λ name. command.Push name None) (λ _. tt) (named a))
+      (good_if (bytes_eq b (codes "pull")) _ None (good_map (λ name. command.Pull name None) (λ _. tt) (named a)) tt)))))
+
+  good_one_line : (a b c : List ℕ) → IsGood (of_one_line a b c)
+  good_one_line a b c =
+      good_if (bytes_eq b (codes "insrow")) _ _ (good_line_edit edit.InsRow (λ _. tt) (named a) (row_numbered c))
+      (good_if (bytes_eq b (codes "inscol")) _ _ (good_line_edit edit.InsCol (λ _. tt) (named a) (col_named c))
+      (good_if (bytes_eq b (codes "delrow")) _ _ (good_line_edit edit.DelRow (λ _. tt) (named a) (row_numbered c))
+      (good_if (bytes_eq b (codes "delcol")) _ None (good_line_edit edit.DelCol (λ _. tt) (named a) (col_named c)) tt)))
+
+  good_three : (a b c : List ℕ) → IsGood (of_three_words a b c)
+  good_three a b c =
+      good_if (bytes_eq a (codes "sheet")) _ _ (good_sheet (counted b) (counted c) (is_positive b) (is_positive c))
+      (good_if (bytes_eq b (codes "push")) _ _ (good_push (named a) (counted c))
+      (good_if (bytes_eq b (codes "pull")) _ _ (good_pull (named a) (counted c))
+      (good_if (bytes_eq b (codes "clear")) _ _ (good_clear (named a) (plain_cell (cell_of c))) (good_one_line a b c))))
+
+  good_more : (a b c entry : List ℕ) → length entry ≤ most → IsGood (of_more_words a b c entry)
+  good_more a b c entry h = good_if (bytes_eq b (codes "set")) _ None (good_set (named a) (plain_cell (cell_of c)) entry h) tt
+
+  -- a line is longer than what stands behind its first word
+  behind_shorter : (word next : List ℕ) (others : List (List ℕ)) → length (join_with_byte 32 (next ∷ others)) ≤ length (join_with_byte 32 (word ∷ next ∷ others))
+  behind_shorter word next others = let l = length-append word (32 ∷ join_with_byte 32 (next ∷ others)) in omega (arith, l)
+
+  good_words : (ws : List (List ℕ)) → length (join_with_byte 32 ws) ≤ most → IsGood (of_words ws)
+  good_words [] h = tt
+  good_words (a ∷ []) h = good_one a
+  good_words (a ∷ b ∷ []) h = good_two a b
+  good_words (a ∷ b ∷ c ∷ []) h = good_three a b c
+  good_words (a ∷ b ∷ c ∷ d ∷ ds) h =
+      good_more a b c (join_with_byte 32 (d ∷ ds)) (omega (arith, h, behind_shorter a b (c ∷ d ∷ ds), behind_shorter b c (d ∷ ds), behind_shorter c d ds))
+
+  good_line : (line : List ℕ) → length line ≤ most → IsGood (command_of line)
+  good_line line h =
+      good_if (list_all is_printable line) _ None
+      (good_if (is_note line) (Some command.Note) _ tt (good_words (words line) (subst (λ (bs : List ℕ). length bs ≤ most) (sym (join_with_byte-slice_split 32 line)) h))) tt
+
+pub line_within : (line : List ℕ) (c : Command) → command_of line ≡ Some c → IsWithin (length line) c
+line_within line c e = subst (λ (o : Option Command). IsGood (length line) o) e (good_line (length line) line (omega arith))

@@ -1,0 +1,36 @@
+-- The effects of a history with one more entry.
+use Rattle.std.proofs.Common.{◌≡◌, ◌≢◌, ℕ, suc, ◌+◌, ◌<◌, ◌≤◌, List, [], ◌∷◌, ◌++◌, length, take, refl, ap, sym, ◌∙◌, subst, arith, inl, inr, Option, Some}
+use Rattle.std.specs.Prelude.{◌⊎◌, slice_get, slice_index_or}
+use Rattle.std.proofs.lemmas.List.{length-append}
+use Rattle.ss_base.specs.declared.types.Size.{Size}
+use Rattle.sheet_ops.specs.declared.operation.Entry.{Entry}
+use Rattle.sheet_ops.specs.declared.operation.Effect.{Effect}
+use Rattle.sheet_ops.specs.Identity.{IdOp, opened}
+use Rattle.sheet_ops.specs.Act.{acts}
+use Rattle.sheet_ops.specs.Naming.{locate, effect_of_intent}
+use Rattle.sheet_ops.specs.History.{resolved}
+use Rattle.sheet_ops.specs.Published.{no_operation, effect_at}
+use Rattle.sheet_ops.proofs.Histories.{length-resolved, resolved-push, resolved_before}
+use Rattle.script_run.specs.Runs.{AreEffectsOf}
+use Rattle.script_run.proofs.Lists.{same_or_not, get_more-before, get_more-last, index_more-before}
+
+-- an effect doesn't depend on what comes later
+pub effect_before : (size : Size) (H : List Entry) (e : Entry) (k : ℕ) → k < length H → effect_at size (H ++ e ∷ []) k ≡ effect_at size H k
+effect_before size H e k h =
+    let here : slice_index_or (resolved size (H ++ e ∷ [])) k no_operation ≡ slice_index_or (resolved size H) k no_operation =
+    ap (λ (Rs : List IdOp). slice_index_or Rs k no_operation) (resolved-push size H e) ∙ index_more-before (resolved size H) _ no_operation k (omega (arith, h, length-resolved size H)) in
+    λ i. effect_of_intent (locate (acts (opened size) (resolved_before size H e k (omega (arith, h)) i)) (here i))
+
+pub effects_more : (size : Size) (H : List Entry) (e : Entry) (es : List Effect) (x : Effect) → AreEffectsOf size H es → x ≡ effect_at size (H ++ e ∷ []) (length H) → AreEffectsOf size (H ++ e ∷ []) (es ++ x ∷ [])
+effects_more size H e es x old is = record {
+  as_many = omega (arith, length-append es (x ∷ []), length-append H (e ∷ []), old.as_many);
+  each = λ k h. by_place k h (same_or_not k (length H));
+}
+  where
+    by_place : (k : ℕ) → k < length (H ++ e ∷ []) → ((k ≡ length H) ⊎ (k ≢ length H)) → slice_get (es ++ x ∷ []) k ≡ Some (effect_at size (H ++ e ∷ []) k)
+    by_place k h (inl same) =
+        subst (λ n. slice_get (es ++ x ∷ []) n ≡ Some (effect_at size (H ++ e ∷ []) n)) (sym same)
+        (ap (slice_get (es ++ x ∷ [])) (sym old.as_many) ∙ (get_more-last es x ∙ ap Some is))
+    by_place k h (inr apart) =
+        let below : k < length H = omega (arith, h, length-append H (e ∷ []), apart) in
+        get_more-before es x k (omega (arith, below, old.as_many)) ∙ (old.each k below ∙ ap Some (sym (effect_before size H e k below)))

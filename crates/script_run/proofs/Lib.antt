@@ -1,0 +1,10 @@
+pub mod Lists
+pub mod Seats
+pub mod Outcomes
+pub mod Deliveries
+pub mod Effects
+pub mod Standing
+pub mod Edited
+pub mod Issued
+pub mod Worlds
+pub mod Turns

@@ -1,0 +1,28 @@
+use Rattle.std.proofs.Common.{◌≡◌, Bool, None, Some, Option, sym, ◌∙◌, subst}
+use Rattle.script_read.specs.Script.{fault_of}
+use Rattle.script_run.specs.World.{World}
+use Rattle.script_run.specs.States.{Table, table_of, IsState, StepGives}
+use Rattle.script_run.proofs.Outcomes.{if_ok}
+use Rattle.script_run.proofs.Turns.{may_step, stepped}
+use Rattle.script_run.proofs.state.ScriptState.step.Goals as goal
+use Rattle.script_run.proofs.state.ScriptState.step.Goals.{In-Some}
+
+module _ (c : In-Some) where
+  before : table_of (Some c.in-Some.run') c.self.inside.closed ≡ c.args.self.now
+  before = subst (λ (o : Option World). table_of o c.self.inside.closed ≡ c.args.self.now) c.in-Some.is c.self.view_is
+
+  accepted_here : fault_of (table_of (Some c.in-Some.run') c.self.inside.closed).declared c.args.command.now ≡ None
+  accepted_here = subst (λ (t : Table). fault_of t.declared c.args.command.now ≡ None) (sym before) c.requires.accepted
+
+pub step-requires : goal.step-requires
+step-requires c =
+    may_step c.in-Some.run' c.self.inside.closed c.args.command.now (subst (λ (o : Option World). IsState o c.self.inside.closed) c.in-Some.is c.self.invariant) c.requires.within
+    (accepted_here (goal.at.step-requires c).In-Some)
+
+pub returns-in-Some : goal.returns-in-Some
+returns-in-Some c =
+    let at = (goal.at.returns-in-Some c).In-Some in
+    if_ok c.step.result (λ t k.
+    subst (λ (old : Table). StepGives old (table_of (Some c.step.new.self) c.closed_after-self-inside.result) c.args.number c.args.command.now t) (before at)
+    (subst (λ (b : Bool). StepGives (table_of (Some c.in-Some.run') c.self.inside.closed) (table_of (Some c.step.new.self) b) c.args.number c.args.command.now t) (sym c.closed_after-self-inside.ensures)
+    (stepped c.in-Some.run' c.self.inside.closed c.args.number c.args.command.now c.step.new.self t (accepted_here at) k.0 k.1))) c.step.ensures.ok

@@ -1,0 +1,7 @@
+pub mod World
+pub mod Transcript
+pub mod Rooms
+pub mod Runs
+pub mod Deliveries
+pub mod Issues
+pub mod States

@@ -1,0 +1,117 @@
+-- The state of a run: one history, and what each site has. One command is one step of it.
+use Rattle.std.specs.Prelude.{ℕ, zero, suc, ◌+◌, ◌-◌, min, max, nat_lt, if◌then◌else◌, List, [], ◌∷◌, ◌++◌, length, take, drop, Option, Some, None, Result, Ok, Err, slice_index_or, slice_set, position, unwrap_or}
+use Rattle.std.specs.Str.{bytes_eq}
+use Rattle.ss_base.specs.declared.types.Size.{Size}
+use Rattle.sheet_ops.specs.declared.edit.Edit.{Edit}
+use Rattle.sheet_ops.specs.declared.edit.EditErr.{EditErr}
+use Rattle.sheet_ops.specs.declared.edit.EditErr.TheVariants as fault
+use Rattle.sheet_ops.specs.declared.operation.Entry.{Entry}
+use Rattle.sheet_ops.specs.declared.operation.Intent.{Intent}
+use Rattle.sheet_ops.specs.Identity.{IdSheet}
+use Rattle.sheet_ops.specs.History.{own_entries, operations, view}
+use Rattle.author_ops.specs.Edits.{intended}
+use Rattle.script_read.specs.declared.command.Command.{Command}
+use Rattle.script_read.specs.declared.command.Command.TheVariants as command
+use Rattle.script_run.specs.declared.seat.Seat.{Seat}
+
+-- The size of the sheet, the history, and what each site has. The seats stand in the order in which the sites were declared; site
+-- number i has the place i - 1.
+pub record World : Type 0 where
+  pub size : Size
+  pub history : List Entry
+  pub seats : List Seat
+
+abbrev pub no_world : World
+no_world = record { size = record { rows = 0; cols = 0 }; history = []; seats = [] }
+
+abbrev pub new_seat : List ℕ → Seat
+new_seat name = record { name = name; made = []; pushed = 0; taken = 0 }
+
+-- the place of the site with this name, if there is one
+abbrev pub place_in : List Seat → List ℕ → Option ℕ
+place_in seats name = position (λ s. bytes_eq name s.name) seats
+
+abbrev pub place_of : World → List ℕ → ℕ
+place_of w name = unwrap_or (place_in w.seats name) 0
+
+abbrev pub seat_at : World → ℕ → Seat
+seat_at w p = slice_index_or w.seats p (new_seat [])
+
+abbrev pub put_seat : World → ℕ → Seat → World
+put_seat w p s = record w { seats = slice_set w.seats p s }
+
+-- what a site sees: the part of the history that it has taken, then its own entries that are not in it
+abbrev pub view_at : World → ℕ → IdSheet
+view_at w p = let s = seat_at w p in view w.size w.history (suc p) s.taken s.made
+
+-- how many of its own entries are not in the part that it has taken
+abbrev pub pending_at : World → ℕ → ℕ
+pending_at w p = let s = seat_at w p in length s.made - length (own_entries (suc p) (take s.taken w.history))
+
+-- a site has 1,000 operations
+abbrev pub unless_spent : ℕ → Result Intent EditErr → Result Intent EditErr
+unless_spent issued (Err e) = Err e
+unless_spent issued (Ok op) = if nat_lt issued 1000 then Ok op else Err fault.Spent
+
+-- what an edit of a site comes to; no line sorts yet, so that there are no keys
+abbrev pub decided : World → ℕ → Edit → Result Intent EditErr
+decided w p e = unless_spent (operations (seat_at w p).made) (intended (view_at w p) e [])
+
+abbrev pub after_decided : World → ℕ → Result Intent EditErr → World
+after_decided w p (Err e) = w
+after_decided w p (Ok op) =
+    let s = seat_at w p in
+    put_seat w p (record s { made = s.made ++ record { site = record { 0 = suc p }; seen = s.taken; intent = op } ∷ [] })
+
+-- how many sites the server is for: one where none is declared
+abbrev pub site_count : World → ℕ
+site_count w = max 1 (length w.seats)
+
+-- a number that is asked for, or all that is left
+abbrev pub at_most : Option ℕ → ℕ → ℕ
+at_most None left = left
+at_most (Some n) left = min n left
+
+-- the next own entries go to the end of the history
+abbrev pub pushed : World → ℕ → Option ℕ → World
+pushed w p n =
+    let s = seat_at w p in
+    let count = at_most n (length s.made - s.pushed) in
+    put_seat (record w { history = w.history ++ take count (drop s.pushed s.made) }) p (record s { pushed = s.pushed + count })
+
+-- the next entries of the history are taken
+abbrev pub pulled : World → ℕ → Option ℕ → World
+pulled w p n = let s = seat_at w p in put_seat w p (record s { taken = s.taken + at_most n (length w.history - s.taken) })
+
+-- the sites one after another, so many from a place on
+abbrev pub at_each : (World → ℕ → World) → ℕ → ℕ → World → World
+at_each does p zero w = w
+at_each does p (suc count) w = at_each does (suc p) count (does w p)
+
+abbrev pub each_pushed : World → World
+each_pushed w = at_each (λ v p. pushed v p None) 0 (length w.seats) w
+
+abbrev pub each_pulled : World → World
+each_pulled w = at_each (λ v p. pulled v p None) 0 (length w.seats) w
+
+-- the state after a command
+abbrev pub after : World → Command → World
+after w command.Note = w
+after w (command.Sheet size) = record w { size = size }
+after w (command.Site name) = record w { seats = w.seats ++ new_seat name ∷ [] }
+after w (command.Edit name e) = let p = place_of w name in after_decided w p (decided w p e)
+after w (command.Push name n) = pushed w (place_of w name) n
+after w (command.Pull name n) = pulled w (place_of w name) n
+after w command.PushAll = each_pushed w
+after w command.PullAll = each_pulled w
+after w (command.Show name) = w
+after w command.ShowServer = w
+after w command.End = w
+
+-- the state after some commands with the numbers of their lines
+abbrev pub after_all : World → List (ℕ × Command) → World
+after_all w [] = w
+after_all w (c ∷ cs) = after_all (after w c.1) cs
+
+abbrev pub world_after : List (ℕ × Command) → World
+world_after cs = after_all no_world cs

@@ -1,0 +1,353 @@
+ghost use Rattle.std.specs.Prelude.{◌≡◌, ◌≢◌, ◌≤◌, ◌<◌, ◌-◌, ◌+◌, [], ◌∷◌, ◌++◌, length, Some, None, Ok, Err, IfOk, OnOk, OnErr, IfErr, ℕ, is_some, true, false};
+ghost use Rattle.std.specs.Str.{bytes_eq};
+ghost use Rattle.sheet_ops.specs.declared.operation.Intent.{Intent};
+ghost use Rattle.script_read.specs.declared.command.Command.TheVariants as command;
+ghost use Rattle.script_read.specs.Commands.{EntryWithin};
+ghost use Rattle.script_run.specs.World.{no_world, new_seat, place_of, place_in, seat_at, decided, after_decided, at_most, pushed, pulled, each_pushed, each_pulled, after};
+ghost use Rattle.script_run.specs.Transcript.{show_text, server_text, printed};
+ghost use Rattle.script_run.specs.Rooms.{RoomRepresents};
+ghost use Rattle.script_run.specs.States.{MayStep, closes};
+
+use crate::deliver::{deliver, hand_in};
+use crate::issue::issue;
+use crate::room::Room;
+use crate::seat::Seat;
+use crate::text::{nothing, text_of};
+use jup_client::Client;
+use jup_server::Server;
+use script_read::Command;
+use sheet_ops::{Edit, EditErr, Effect, Entry};
+use sheet_text::{head, server_head, sheet_lines};
+use ss_base::{Memory, Seq, Site, Size, Txt};
+use std::alloc::Global;
+use std::marker::Model;
+
+/// The history of a run, what its sites have, and the room that represents them: a client for each site
+/// and one server. Sites go by their places, counted from 0 in the order in which they were added.
+#[derive(Debug, Drop)]
+pub struct Run {
+    size: Size,
+    history: Vec<Entry>,
+    /// What each entry of the history does, as it goes to every site but its author's.
+    effects: Vec<Effect>,
+    seats: Vec<Seat>,
+    server: Server,
+    clients: Vec<Client>,
+}
+
+impl Model for Run {
+    ghost use Rattle.std.specs.Coded.{codes};
+    ghost use Rattle.sheet_ops.specs.contracts.operation.Entry as entry;
+    ghost use Rattle.script_run.specs.World.{World};
+    ghost use Rattle.script_run.specs.Runs.{IsRun};
+
+    ghost Value = { World };
+
+    ghost coded = { Prim.hlevel (codes, entry.the_row.coded) };
+
+    ghost view = { λ r. record { size = r.size; history = r.history.items; seats = r.seats.items } };
+
+    ghost invariant = { λ r. IsRun (record { size = r.size; history = r.history.items; seats = r.seats.items })
+        r.effects.items (record { server = r.server; clients = r.clients.items }) };
+}
+
+impl Run {
+    /// Opens a sheet of a size. There is no site yet, and the server is for one.
+    pub fn open(alloc: Global, size: Size) -> Result<Run, Memory>
+        requires rows { size.rows ≤ 1000 }
+        requires cols { size.cols ≤ 64 }
+        ensures { IfOk result (λ r. r ≡ record no_world { size = size }) }
+    {
+        let server = Server::new(alloc, size, 1)?;
+        Ok(Run {
+            size,
+            history: Vec::new(alloc),
+            effects: Vec::new(alloc),
+            seats: Vec::new(alloc),
+            server,
+            clients: Vec::new(alloc),
+        })
+    }
+
+    /// How many sites there are.
+    pub fn sites(&self) -> usize
+        ensures sites { result ≡ length self.now.seats }
+        ensures most { result ≤ 8 }
+    {
+        let _size = self.size;
+        self.seats.len()
+    }
+
+    /// The place of the site with this name, if there is one.
+    pub fn place_of(&self, name: &Txt) -> Option<usize>
+        ensures { result ≡ place_in self.now.seats name.now }
+    {
+        first_of(self.seats.as_slice(), name)
+    }
+
+    /// The number of the site at a place.
+    fn site_at(&self, place: usize) -> Site
+        requires { place < length self.now.seats }
+        ensures { result.0 ≡ place + 1 }
+    {
+        let _size = self.size;
+        Site(place as u8 + 1)
+    }
+
+    /// Adds a site, before there is an entry in the history: the server begins anew, for one more. A
+    /// refused call leaves the run.
+    pub fn add_site(&mut self, alloc: Global, name: &Txt) -> Result<(), Memory>
+        requires few { length self.old.seats < 8 }
+        requires new { self.old.history ≡ [] }
+        ensures ok { OnOk result (self.new ≡ record self.old { seats = self.old.seats ++ new_seat name.now ∷ [] }) }
+        ensures err { OnErr result (self.new ≡ self.old) }
+    {
+        let sites = self.seats.len() as u8 + 1;
+        let name = name.copy()?;
+        let server = Server::new(alloc, self.size, sites)?;
+        let client = Client::new(alloc, Site(sites), self.size)?;
+        self.seats.reserve(1)?;
+        self.clients.push(client)?;
+        self.seats.push_reserved(Seat {
+            name,
+            made: Seq::new(alloc),
+            pushed: 0,
+            taken: 0,
+        });
+        self.server = server;
+        Ok(())
+    }
+
+    /// Does an edit of a site at once. A refused edit leaves the run.
+    pub fn edit(&mut self, alloc: Global, place: usize, edit: &Edit) -> Result<(), EditErr>
+        requires place { place < length self.old.seats }
+        requires short { EntryWithin 4096 edit.now }
+        ensures ok { OnOk result ((op : Intent) × (decided self.old place edit.now ≡ Ok op) × (self.new ≡ after_decided self.old place (Ok op))) }
+        ensures err { OnErr result (self.new ≡ self.old) }
+        ensures cause { IfErr result (λ e. e ≢ EditErr.Memory → decided self.old place edit.now ≡ Err e) }
+    {
+        let site = self.site_at(place);
+        let seat = &mut self.seats[place];
+        let client = &mut self.clients[place];
+        issue(alloc, site, seat, client, edit)
+    }
+
+    /// Puts the next own entry of a site at the end of the history. A refused call leaves the run.
+    pub fn push_one(&mut self, place: usize) -> Result<(), Memory>
+        requires place { place < length self.old.seats }
+        requires more { (seat_at self.old place).pushed < length (seat_at self.old place).made }
+        ensures ok { OnOk result (self.new ≡ pushed self.old place (Some 1)) }
+        ensures err { OnErr result (self.new ≡ self.old) }
+    {
+        let site = self.site_at(place);
+        let seat = &mut self.seats[place];
+        self.history.reserve(1)?;
+        self.effects.reserve(1)?;
+        let (entry, effect) = hand_in(&mut self.server, site, seat)?;
+        self.history.push_reserved(entry);
+        self.effects.push_reserved(effect);
+        seat.pushed += 1;
+        Ok(())
+    }
+
+    /// Takes the next entry of the history at a site. A refused call leaves the run.
+    pub fn pull_one(&mut self, place: usize) -> Result<(), Memory>
+        requires place { place < length self.old.seats }
+        requires more { (seat_at self.old place).taken < length self.old.history }
+        ensures ok { OnOk result (self.new ≡ pulled self.old place (Some 1)) }
+        ensures err { OnErr result (self.new ≡ self.old) }
+    {
+        let site = self.site_at(place);
+        let seat = &mut self.seats[place];
+        let client = &mut self.clients[place];
+        let history = self.history.as_slice();
+        let effects = self.effects.as_slice();
+        deliver(client, site, history, effects)?;
+        seat.taken += 1;
+        Ok(())
+    }
+
+    /// How many own entries of a site are not in the history.
+    fn unpushed(&self, place: usize) -> usize
+        requires { place < length self.now.seats }
+        ensures { result ≡ length (seat_at self.now place).made - (seat_at self.now place).pushed }
+    {
+        let _size = self.size;
+        let seat = &self.seats[place];
+        seat.made.len() - seat.pushed as usize
+    }
+
+    /// How many entries of the history a site has not taken.
+    fn untaken(&self, place: usize) -> usize
+        requires { place < length self.now.seats }
+        ensures { result ≡ length self.now.history - (seat_at self.now place).taken }
+    {
+        let _size = self.size;
+        let seat = &self.seats[place];
+        self.history.len() - seat.taken as usize
+    }
+
+    /// Pushes own entries of a site, all or at most so many. After a refused call those that the server
+    /// took are pushed.
+    pub fn push(&mut self, place: usize, most: Option<u32>) -> Result<(), Memory>
+        requires { place < length self.old.seats }
+        ensures ok { OnOk result (self.new ≡ pushed self.old place most) }
+        ensures err { OnErr result ((k : ℕ) × (self.new ≡ pushed self.old place (Some k))) }
+    {
+        let count = limited(most, self.unpushed(place));
+        for _i in 0..count {
+            self.push_one(place)?;
+        }
+        Ok(())
+    }
+
+    /// Takes entries of the history at a site, all or at most so many. After a refused call those that the
+    /// client took are taken.
+    pub fn pull(&mut self, place: usize, most: Option<u32>) -> Result<(), Memory>
+        requires { place < length self.old.seats }
+        ensures ok { OnOk result (self.new ≡ pulled self.old place most) }
+        ensures err { OnErr result ((k : ℕ) × (self.new ≡ pulled self.old place (Some k))) }
+    {
+        let count = limited(most, self.untaken(place));
+        for _i in 0..count {
+            self.pull_one(place)?;
+        }
+        Ok(())
+    }
+
+    /// Pushes all, site by site.
+    pub fn push_all(&mut self) -> Result<(), Memory>
+        ensures { OnOk result (self.new ≡ each_pushed self.old) }
+    {
+        for place in 0..self.sites() {
+            self.push(place, None)?;
+        }
+        Ok(())
+    }
+
+    /// Pulls all, site by site.
+    pub fn pull_all(&mut self) -> Result<(), Memory>
+        ensures { OnOk result (self.new ≡ each_pulled self.old) }
+    {
+        for place in 0..self.sites() {
+            self.pull(place, None)?;
+        }
+        Ok(())
+    }
+
+    /// The text of the sheet that a site sees.
+    pub fn show(&self, alloc: Global, place: usize) -> Result<Txt, Memory>
+        requires { place < length self.now.seats }
+        ensures { IfOk result (λ t. t ≡ show_text self.now place) }
+    {
+        let seat = &self.seats[place];
+        let client = &self.clients[place];
+        let head = head(
+            alloc,
+            &seat.name,
+            seat.taken,
+            client.pending(),
+            client.sheet(),
+        )?;
+        sheet_lines(alloc, &head, client.sheet())
+    }
+
+    /// The text of the server's sheet.
+    pub fn show_server(&self, alloc: Global) -> Result<Txt, Memory>
+        ensures { IfOk result (λ t. t ≡ server_text self.now) }
+    {
+        let head = server_head(alloc, self.server.count(), self.server.sheet())?;
+        sheet_lines(alloc, &head, self.server.sheet())
+    }
+
+    /// Does an edit of a site, and gives what is printed of it by the number of its line.
+    fn edited(&mut self, alloc: Global, number: u32, name: &Txt, edit: &Edit) -> Result<Txt, Memory>
+        requires { MayStep self.old (command.Edit name.now edit.now) }
+        ensures { IfOk result (λ t. (t ≡ printed self.old number (command.Edit name.now edit.now)) × (self.new ≡ after self.old (command.Edit name.now edit.now))) }
+    {
+        let place = self.place(name);
+        let answer = self.edit(alloc, place, edit);
+        text_of(alloc, number, answer)
+    }
+
+    /// The place of a site that is there.
+    fn place(&self, name: &Txt) -> usize
+        requires { is_some (place_in self.now.seats name.now) ≡ true }
+        ensures place { result ≡ place_of self.now name.now }
+        ensures within { result < length self.now.seats }
+    {
+        match self.place_of(name) {
+            Some(place) => place,
+            None => unreachable!(),
+        }
+    }
+
+    /// Does a command, and gives what it prints by the number of its line. A refused call leaves the run
+    /// where it wanted memory for a site; else the pushes and pulls that were made stand.
+    pub fn step(&mut self, alloc: Global, number: u32, command: &Command) -> Result<Txt, Memory>
+        requires { MayStep self.old command.now }
+        ensures ok { IfOk result (λ t. (t ≡ printed self.old number command.now) × (self.new ≡ after self.old command.now)) }
+        ensures err { OnErr result (closes command.now ≡ false → self.new ≡ self.old) }
+    {
+        match command {
+            Command::Note | Command::End => Ok(nothing(alloc)),
+            Command::Sheet(_) => unreachable!(),
+            Command::Site(name) => {
+                self.add_site(alloc, name)?;
+                Ok(nothing(alloc))
+            }
+            Command::Edit(name, edit) => self.edited(alloc, number, name, edit),
+            Command::Push(name, count) => {
+                self.push(self.place(name), *count)?;
+                Ok(nothing(alloc))
+            }
+            Command::Pull(name, count) => {
+                self.pull(self.place(name), *count)?;
+                Ok(nothing(alloc))
+            }
+            Command::PushAll => {
+                self.push_all()?;
+                Ok(nothing(alloc))
+            }
+            Command::PullAll => {
+                self.pull_all()?;
+                Ok(nothing(alloc))
+            }
+            Command::Show(name) => self.show(alloc, self.place(name)),
+            Command::ShowServer => self.show_server(alloc),
+        }
+    }
+
+    /// The server and the clients, as the run leaves them. It takes no memory.
+    pub fn into_room(self) -> Room
+        ensures { RoomRepresents self result }
+    {
+        Room {
+            server: self.server,
+            clients: Seq::from_vec(self.clients),
+        }
+    }
+}
+
+/// The place of the first seat with this name.
+fn first_of(seats: &[Seat], name: &Txt) -> Option<usize>
+    ensures { result ≡ place_in seats.now name.now }
+{
+    seats.iter().position(|seat| is_of(seat, name))
+}
+
+fn is_of(seat: &Seat, name: &Txt) -> bool
+    ensures { result ≡ bytes_eq name.now seat.now.name }
+{
+    name.bytes() == seat.name.bytes()
+}
+
+/// A number that is asked for, or all that is left.
+fn limited(most: Option<u32>, left: usize) -> usize
+    ensures { result ≡ at_most most left }
+{
+    match most {
+        None => left,
+        Some(most) => left.min(most as usize),
+    }
+}

@@ -1,0 +1,166 @@
+ghost use Rattle.std.specs.Prelude.{◌≡◌, ◌<◌, ◌≤◌, ◌^◌, ◌-◌, ◌↔◌, All, IfOk, OnOk, OnErr, IfSome, IsNone, length, insert, map, slice_index, slice_get};
+ghost use Rattle.marked_lines.specs.Moves.{after_insertion, image, permute, IsPerm, MovesBelow};
+ghost use Rattle.sheet_grid.specs.Numbers.{IsNumbered, numbers_from};
+
+use marked_lines::Perm;
+use ss_base::Memory;
+use std::alloc::{AllocError, Global};
+use std::marker::Model;
+
+/// The numbers of what stands at the positions. Contracts see them as the list of numbers by
+/// position; beside it the positions are kept by number.
+#[derive(Debug, Drop)]
+pub struct Numbered {
+    numbers: Vec<u32>,
+    places: Vec<u32>,
+}
+
+impl Model for Numbered {
+    ghost use Rattle.std.specs.Prelude.{List, ℕ};
+    ghost use Rattle.sheet_grid.specs.Numbers.{IsNumbered};
+
+    ghost Value = { List ℕ };
+
+    ghost view = { λ n. n.numbers.items };
+
+    ghost invariant = { λ n. IsNumbered n.numbers.items n.places.items };
+}
+
+impl Numbered {
+    /// So many lines in their order.
+    pub fn new(alloc: Global, count: u32) -> Result<Numbered, Memory>
+        requires { count ≤ 16000 }
+        ensures { IfOk result (λ n. n ≡ numbers_from 0 count) }
+    {
+        let numbers = first_numbers(alloc, count)?;
+        let places = first_numbers(alloc, count)?;
+        Ok(Numbered { numbers, places })
+    }
+
+    /// An equal list.
+    pub fn copy(&self) -> Result<Numbered, Memory>
+        ensures { IfOk result (λ r. r ≡ self.now) }
+    {
+        let numbers = Vec::from_slice(*self.numbers.allocator(), &self.numbers)?;
+        let places = Vec::from_slice(*self.places.allocator(), &self.places)?;
+        Ok(Numbered { numbers, places })
+    }
+
+    /// How many lines ever came.
+    pub fn len(&self) -> u32
+        ensures value { result ≡ length self.now }
+        ensures few { length self.now ≤ 16000 }
+    {
+        self.numbers.len() as u32
+    }
+
+    /// The number of what stands at a position.
+    pub fn number(&self, p: u32) -> u32
+        requires { p < length self.now }
+        ensures number { result ≡ slice_index self.now p }
+        ensures below { result < length self.now }
+    {
+        self.numbers[p as usize]
+    }
+
+    /// The number of what stands at a position, and `None` exactly where there is none.
+    pub fn get(&self, p: u32) -> Option<u32>
+        ensures { result ≡ slice_get self.now p }
+    {
+        self.numbers.get(p as usize).copied()
+    }
+
+    /// Where the one with a number stands, and `None` exactly where it never came.
+    pub fn place(&self, number: u32) -> Option<u32>
+        ensures there { IfSome result (λ p. (p < length self.now) × (slice_index self.now p ≡ number)) }
+        ensures none { IsNone result ↔ (length self.now ≤ number) }
+    {
+        self.places.get(number as usize).copied()
+    }
+
+    /// A new one before the one at a position, or behind the last one, with the next number. A
+    /// refused call leaves all as it was.
+    pub fn insert(&mut self, p: u32) -> Result<(), Memory>
+        requires place { p ≤ length self.old }
+        requires room { length self.old < 16000 }
+        ensures ok { OnOk result (self.new ≡ insert self.old p (length self.old)) }
+        ensures err { OnErr result (self.new ≡ self.old) }
+    {
+        let next = self.numbers.len() as u32;
+        self.numbers.reserve(1)?;
+        self.places.reserve(1)?;
+        raise(self.places.as_mut_slice(), p);
+        match self.places.push(p) {
+            Ok(()) => {}
+            Err(_) => unreachable!(),
+        }
+        match self.numbers.insert(p as usize, next) {
+            Ok(()) => Ok(()),
+            Err(_) => unreachable!(),
+        }
+    }
+
+    /// These numbers, each of them gone from its position to the image of that position.
+    pub fn moved(&self, perm: &Perm) -> Result<Numbered, Memory>
+        requires proper { IsPerm perm.now }
+        requires below { MovesBelow (length self.now) perm.now }
+        ensures { IfOk result (λ r. r ≡ permute perm.now self.now) }
+    {
+        let numbers = permuted(&self.numbers, perm)?;
+        let places = images(&self.places, perm)?;
+        Ok(Numbered { numbers, places })
+    }
+}
+
+// So many numbers from 0 on.
+fn first_numbers(alloc: Global, count: u32) -> Result<Vec<u32>, AllocError>
+    ensures { IfOk result (λ v. v.items ≡ numbers_from 0 count) }
+{
+    let mut numbers = Vec::with_capacity(alloc, count as usize)?;
+    for i in 0..count {
+        numbers.push(i)?;
+    }
+    Ok(numbers)
+}
+
+// The images of some positions.
+fn images(places: &Vec<u32>, perm: &Perm) -> Result<Vec<u32>, AllocError>
+    ensures { IfOk result (λ v. v.items ≡ map (image perm.now) places.now.items) }
+{
+    places
+        .iter()
+        .map(|p| perm.at(*p))
+        .collect(*places.allocator())
+}
+
+// What stands at each position after each went to the image of its position.
+fn permuted(numbers: &Vec<u32>, perm: &Perm) -> Result<Vec<u32>, Memory>
+    requires few { length numbers.now.items ≤ 16000 }
+    requires below { MovesBelow (length numbers.now.items) perm.now }
+    ensures moved { IfOk result (λ v. v.items ≡ permute perm.now numbers.now.items) }
+{
+    let back = perm.inverse()?;
+    let mut after = Vec::with_capacity(*numbers.allocator(), numbers.len())?;
+    for p in 0..numbers.len() {
+        after.push(numbers[back.at(p as u32) as usize])?;
+    }
+    Ok(after)
+}
+
+// Each place from `p` on is one further.
+fn raise(places: &mut [u32], p: u32)
+    requires { All (λ q. q < 2 ^ 32 - 1) places.old }
+    ensures { places.new ≡ map (after_insertion p) places.old }
+{
+    for place in places.iter_mut() {
+        *place = after(*place, p);
+    }
+}
+
+// Where a position is after an insertion.
+fn after(place: u32, inserted: u32) -> u32
+    requires { place < 2 ^ 32 - 1 }
+    ensures { result ≡ after_insertion inserted place }
+{
+    if place < inserted { place } else { place + 1 }
+}
