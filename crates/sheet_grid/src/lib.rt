@@ -53,3 +53,6 @@ impl Model for Sheet {
 
     ghost invariant = { λ s. IsTidy s.rows s.cols s.cells.items };
 }
+
+#[cfg(test)]
+mod tests;

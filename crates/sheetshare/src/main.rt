@@ -3,6 +3,8 @@
 
 mod exit;
 mod play;
+#[cfg(test)]
+mod tests;
 
 use crate::exit::code;
 use crate::play::{Status, play};

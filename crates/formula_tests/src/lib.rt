@@ -1,0 +1,6 @@
+//! Tests of formulas from their text to their value, over all the crates between: what each comes to on
+//! a small sheet, as the definition of the functions and operators has it.
+#![tactic(auto)]
+
+#[cfg(test)]
+mod tests;
