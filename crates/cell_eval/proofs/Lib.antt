@@ -1,3 +1,4 @@
+pub mod Alike
 mod Limits
 mod Runs
 mod Stacks

@@ -1,3 +1,4 @@
+pub mod Alike
 mod Counting
 mod Floors
 mod Found

@@ -1,0 +1,4 @@
+pub mod Hues
+pub mod Steps
+pub mod Turns
+pub mod White

@@ -1,0 +1,130 @@
+-- What a look over a sheet sees, by visible indexes.
+use Rattle.std.proofs.Common.{◌≡◌, ℕ, zero, suc, ◌+◌, ◌<◌, ◌≤◌, Bool, true, false, cond, List, [], ◌∷◌, length, map, refl, ap, sym, ◌∙◌, subst, arith, Some, None, Option}
+use Rattle.std.specs.Prelude.{IfSome, unwrap_or, ◌&&◌, ◌-◌, not, nat_le, slice_index, slice_index_or, filter}
+use Rattle.std.proofs.lemmas.List.{length-map}
+use Rattle.ss_base.specs.declared.types.Size.{Size}
+use Rattle.ss_base.specs.declared.types.Spot.{Spot}
+use Rattle.ss_base.specs.declared.types.Span.{Span}
+use Rattle.sheet_value.specs.declared.value.Value.{Value}
+use Rattle.sheet_value.specs.declared.value.Value.TheVariants as value
+use Rattle.sheet_value.specs.Environment.{cell_value, range_value, size_of_lines}
+use Rattle.sheet_value.specs.Tables.{Table, value_at, filled}
+use Rattle.marked_lines.specs.Marks.{visible_before, span_of}
+use Rattle.marked_lines.proofs.Indexes.{span_order}
+use Rattle.marked_lines.specs.Marks.{visible_of}
+use Rattle.sheet_ops.specs.Placed.{PlacedSheet}
+use Rattle.sheet_graph.specs.Areas.{indexes_from}
+use Rattle.sheet_graph.proofs.Spans.{span_lines, lines_of_span}
+use Rattle.full_calc.specs.Precedents.{is_seen, places_between}
+use Rattle.full_calc.specs.Looks.{look_environment}
+
+-- a line with a visible index is seen, and others aren't
+pub line_seen : (marks : List Bool) (p v : ℕ) → Some v ≡ visible_of marks p → (is_seen marks p ≡ true) × (visible_before marks p ≡ v)
+line_seen marks p v h = by_mark (slice_index_or marks p true) h
+  where
+    by_mark : (b : Bool) → Some v ≡ cond b None (Some (visible_before marks p)) → (not b ≡ true) × (visible_before marks p ≡ v)
+    by_mark true e = absurd (let q : Some v ≡ None = e in cc)
+    by_mark false e = (refl, (let q : Some v ≡ Some (visible_before marks p) = e in cc))
+
+pub line_hidden : (marks : List Bool) (p : ℕ) → None ≡ visible_of marks p → is_seen marks p ≡ false
+line_hidden marks p h = by_mark (slice_index_or marks p true) h
+  where
+    by_mark : (b : Bool) → None ≡ cond b None (Some (visible_before marks p)) → not b ≡ false
+    by_mark true e = refl
+    by_mark false e = absurd (let q : None ≡ Some (visible_before marks p) = e in cc)
+
+module _ (P : PlacedSheet) (T : Table) where
+  pub cell_there : (s : Spot) (r c : ℕ) → Some r ≡ visible_of P.rows s.row → Some c ≡ visible_of P.cols s.col → cell_value (look_environment P T) s ≡ Some (value_at T r c)
+  cell_there s r c h k =
+      let a = line_seen P.rows s.row r h in
+      let b = line_seen P.cols s.col c k in
+      rw (a.0, b.0) (λ i. Some (value_at T (a.1 i) (b.1 i)))
+
+  pub row_lost : (s : Spot) → None ≡ visible_of P.rows s.row → cell_value (look_environment P T) s ≡ None
+  row_lost s h = rw (line_hidden P.rows s.row h) refl
+
+  pub col_lost : (s : Spot) → None ≡ visible_of P.cols s.col → cell_value (look_environment P T) s ≡ None
+  col_lost s h = by_row (is_seen P.rows s.row)
+    where
+      lost : is_seen P.cols s.col ≡ false
+      lost = line_hidden P.cols s.col h
+
+      by_row : (b : Bool) → Rattle.std.specs.Prelude.option_map (λ (at : ℕ × ℕ). value_at T (visible_before P.rows at.0) (visible_before P.cols at.1)) (cond (b && is_seen P.cols s.col) (Some (s.row, s.col)) None) ≡ None
+      by_row true = rw lost refl
+      by_row false = refl
+
+-- ---- lines between
+length-indexes : (a n : ℕ) → length (indexes_from a n) ≡ n
+length-indexes a zero = refl
+length-indexes a (suc n) = ap suc (length-indexes (suc a) n)
+
+pub length-between : (marks : List Bool) (first last : ℕ) (s : ℕ × ℕ) → Some s ≡ span_of marks first last → length (places_between marks first last) ≡ s.1 + 1 - s.0
+length-between marks first last s h =
+    sym (length-map (places_between marks first last) (visible_before marks))
+    ∙ (ap (λ (ns : List ℕ). length ns) (lines_of_span marks first last ∙ ap span_lines (sym h))
+    ∙ length-indexes s.0 (s.1 + 1 - s.0))
+
+pub none_between : (marks : List Bool) (first last : ℕ) → None ≡ span_of marks first last → length (places_between marks first last) ≡ 0
+none_between marks first last h =
+    sym (length-map (places_between marks first last) (visible_before marks))
+    ∙ ap (λ (ns : List ℕ). length ns) (lines_of_span marks first last ∙ ap span_lines (sym h))
+
+index_map : (f : ℕ → ℕ) (xs : List ℕ) (i : ℕ) → i < length xs → slice_index (map f xs) i ≡ f (slice_index xs i)
+index_map f [] i h = absurd (omega arith)
+index_map f (x ∷ xs) zero h = refl
+index_map f (x ∷ xs) (suc i) h = index_map f xs i (omega arith)
+
+index_from : (a n i : ℕ) → i < n → slice_index (indexes_from a n) i ≡ a + i
+index_from a zero i h = absurd (omega arith)
+index_from a (suc n) zero h = let q : a ≡ a + 0 = omega arith in q
+index_from a (suc n) (suc i) h = index_from (suc a) n i (omega arith) ∙ (let q : suc a + i ≡ a + suc i = omega arith in q)
+
+pub index_between : (marks : List Bool) (first last i : ℕ) (s : ℕ × ℕ) → Some s ≡ span_of marks first last → i < length (places_between marks first last) → visible_before marks (slice_index (places_between marks first last) i) ≡ s.0 + i
+index_between marks first last i s h k =
+    sym (index_map (visible_before marks) (places_between marks first last) i k)
+    ∙ (ap (λ (ns : List ℕ). slice_index ns i) (lines_of_span marks first last ∙ ap span_lines (sym h))
+    ∙ index_from s.0 (s.1 + 1 - s.0) i (subst (λ n. i < n) (length-between marks first last s h) k))
+
+pub no_rows : (rows cols : List ℕ) → length rows ≡ 0 → size_of_lines rows cols ≡ None
+no_rows [] cols h = refl
+no_rows (r ∷ rows) cols h = absurd (omega arith)
+
+pub no_cols : (rows cols : List ℕ) → length cols ≡ 0 → size_of_lines rows cols ≡ None
+no_cols [] cols h = refl
+no_cols (r ∷ rows) [] h = refl
+no_cols (r ∷ rows) (c ∷ cols) h = absurd (omega arith)
+
+pub span_up : (marks : List Bool) (first last : ℕ) (s : ℕ × ℕ) → Some s ≡ span_of marks first last → s.0 ≤ s.1
+span_up marks first last s h = (subst (λ (o : Option (ℕ × ℕ)). IfSome o (λ s. (s.0 ≤ s.1) × (s.1 < Rattle.marked_lines.specs.Marks.visible_count marks))) (sym h) (span_order marks first last)).0
+
+pub line_inside : (marks : List Bool) (first last i : ℕ) (s : ℕ × ℕ) → Some s ≡ span_of marks first last → i < length (places_between marks first last) → s.0 + i ≤ s.1
+line_inside marks first last i s h k =
+    let l = length-between marks first last s h in
+    let u = span_up marks first last s h in
+    omega (arith, k, l, u)
+
+pub some_line : (marks : List Bool) (first last n : ℕ) (s : ℕ × ℕ) → Some s ≡ span_of marks first last → n ≡ s.1 + 1 - s.0 → (n ≡ length (places_between marks first last)) × (n ≡ 0 → ⊥)
+some_line marks first last n s h e =
+    let u = span_up marks first last s h in
+    (e ∙ sym (length-between marks first last s h), λ z. omega (arith, e, z, u))
+
+pub none_inside : (marks : List Bool) (first last i : ℕ) → None ≡ span_of marks first last → i < length (places_between marks first last) → ⊥
+none_inside marks first last i h k = let z = none_between marks first last h in omega (arith, k, z)
+
+filled-kept : (v : Value) → unwrap_or (filled v) value.Empty ≡ v
+filled-kept value.Empty = refl
+filled-kept (value.Num n) = refl
+filled-kept (value.Text t) = refl
+filled-kept (value.Err e) = refl
+
+pub kept-or : (o : Option Value) (v : Value) → o ≡ filled v → unwrap_or o value.Empty ≡ v
+kept-or o v e = ap (λ (p : Option Value). unwrap_or p value.Empty) e ∙ filled-kept v
+
+by_length : (rows cols : List ℕ) → (length rows ≡ 0 → ⊥) → (length cols ≡ 0 → ⊥) → Some (record { rows = length rows; cols = length cols }) ≡ size_of_lines rows cols
+by_length [] cols some_rows some_cols = absurd (some_rows refl)
+by_length (r ∷ rows) [] some_rows some_cols = absurd (some_cols refl)
+by_length (r ∷ rows) (c ∷ cols) some_rows some_cols = refl
+
+pub shape_of_lines : (rows cols : List ℕ) (r c : ℕ) → r ≡ length rows → c ≡ length cols → (r ≡ 0 → ⊥) → (c ≡ 0 → ⊥) → Some (record { rows = r; cols = c }) ≡ size_of_lines rows cols
+shape_of_lines rows cols r c er ec some_rows some_cols =
+    (λ i. Some (record { rows = er i; cols = ec i })) ∙ by_length rows cols (λ z. some_rows (er ∙ z)) (λ z. some_cols (ec ∙ z))

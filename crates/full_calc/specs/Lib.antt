@@ -1,0 +1,9 @@
+pub mod Circular
+pub mod Computed
+pub mod Depth
+pub mod Evaluated
+pub mod Looks
+pub mod Positions
+pub mod Precedents
+pub mod Shown
+pub mod Values

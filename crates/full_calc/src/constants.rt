@@ -1,0 +1,68 @@
+ghost use Rattle.std.specs.Prelude.{◌≡◌, ◌≢◌, ◌<◌, ℕ, IfOk, OnOk};
+ghost use Rattle.sheet_value.specs.declared.value.Value.TheVariants as value;
+ghost use Rattle.sheet_value.specs.Tables.{value_at, with_value};
+ghost use Rattle.sheet_grid.specs.Values.{placed_in};
+ghost use Rattle.sheet_grid.specs.Cells.{visible_size};
+ghost use Rattle.sheet_graph.specs.Graphs.{content_seen, HoldsFilled};
+ghost use Rattle.full_calc.specs.Shown.{IsShaped};
+ghost use Rattle.full_calc.specs.Evaluated.{constant_of};
+ghost use Rattle.full_calc.specs.Computed.{HasConstants};
+
+use sheet_graph::{content_seen, filled_in_row};
+use sheet_grid::Sheet;
+use sheet_ops::Content;
+use sheet_value::{Grid, Value, text_value};
+use ss_base::Memory;
+use std::alloc::Global;
+
+/// The value of a constant, and nothing for a formula.
+fn constant_of(content: Content) -> Value
+    ensures { result ≡ constant_of content }
+{
+    match content {
+        Content::Num(number) => Value::Num(number),
+        Content::Text(text) => text_value(text),
+        Content::Empty | Content::Formula(_) => Value::Empty,
+    }
+}
+
+/// Puts the constant of a cell into its place.
+fn put_constant(grid: &mut Grid, sheet: &Sheet, row: u32, col: u32) -> Result<(), Memory>
+    requires row { row < grid.old.size.rows }
+    requires col { col < grid.old.size.cols }
+    ensures { OnOk result (grid.new ≡ with_value grid.old row col (constant_of (content_seen (placed_in sheet.now) row col))) }
+{
+    let content = content_seen(sheet, row, col)?;
+    grid.put(row, col, constant_of(content))
+}
+
+/// Puts the constants of a row into their places, where nothing is yet.
+fn put_row(grid: &mut Grid, sheet: &Sheet, row: u32, cols: &[u32]) -> Result<(), Memory>
+    requires size { grid.old.size ≡ visible_size (placed_in sheet.now) }
+    requires shape { IsShaped grid.old }
+    requires row { row < grid.old.size.rows }
+    requires filled { HoldsFilled (placed_in sheet.now) row (visible_size (placed_in sheet.now)).cols cols.now }
+    requires empty { (c : ℕ) → value_at grid.old row c ≡ value.Empty }
+    ensures size { OnOk result (grid.new.size ≡ grid.old.size) }
+    ensures shape { OnOk result (IsShaped grid.new) }
+    ensures here { OnOk result ((c : ℕ) → value_at grid.new row c ≡ constant_of (content_seen (placed_in sheet.now) row c)) }
+    ensures others { OnOk result ((r c : ℕ) → r ≢ row → value_at grid.new r c ≡ value_at grid.old r c) }
+{
+    for col in cols {
+        put_constant(grid, sheet, row, *col)?;
+    }
+    Ok(())
+}
+
+/// The values of the constants of a sheet, by visible indexes. It takes time with the filled cells.
+pub(crate) fn constants(alloc: Global, sheet: &Sheet) -> Result<Grid, Memory>
+    ensures { IfOk result (λ g. HasConstants (placed_in sheet.now) g) }
+{
+    let size = sheet.visible();
+    let mut grid = Grid::new(alloc, size)?;
+    for row in 0..size.rows {
+        let cols = filled_in_row(alloc, sheet, row)?;
+        put_row(&mut grid, sheet, row, &cols)?;
+    }
+    Ok(grid)
+}

@@ -1,0 +1,12 @@
+//! Full evaluation of a sheet.
+#![tactic(auto)]
+
+mod constants;
+mod evaluation;
+mod look;
+mod whole;
+
+pub use whole::values;
+
+#[cfg(test)]
+mod tests;

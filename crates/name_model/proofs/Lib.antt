@@ -1,0 +1,5 @@
+mod Lifted
+mod Named
+mod Sized
+mod StayNew
+mod Turns

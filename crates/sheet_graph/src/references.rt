@@ -1,0 +1,77 @@
+ghost use Rattle.std.specs.Prelude.{◌≡◌, ◌++◌, OnOk, option_to_list};
+ghost use Rattle.std.specs.List.{flat_map};
+ghost use Rattle.marked_lines.specs.Marks.{visible_of, span_of};
+ghost use Rattle.sheet_grid.specs.Values.{placed_in};
+ghost use Rattle.sheet_graph.specs.Areas.{area_at, area_over, expr_areas};
+
+use crate::areas::Area;
+use formula_tree::Expr;
+use sheet_grid::Sheet;
+use ss_base::{Memory, Span, Spot};
+
+/// The area of a cell, unless it is hidden.
+fn area_at(sheet: &Sheet, spot: &Spot) -> Option<Area>
+    ensures { option_to_list result ≡ area_at (visible_of (placed_in sheet.now).rows spot.now.row) (visible_of (placed_in sheet.now).cols spot.now.col) }
+{
+    let row = sheet.row_seen(spot.row)?;
+    let col = sheet.col_seen(spot.col)?;
+    Some(Area {
+        top: row,
+        left: col,
+        bottom: row + 1,
+        right: col + 1,
+    })
+}
+
+/// The visible area of a range, unless there is none.
+fn area_over(sheet: &Sheet, span: &Span) -> Option<Area>
+    ensures { option_to_list result ≡ area_over (span_of (placed_in sheet.now).rows span.now.top span.now.bottom) (span_of (placed_in sheet.now).cols span.now.left span.now.right) }
+{
+    let (top, bottom) = sheet.rows_seen(span.top, span.bottom)?;
+    let (left, right) = sheet.cols_seen(span.left, span.right)?;
+    Some(Area {
+        top,
+        left,
+        bottom: bottom + 1,
+        right: right + 1,
+    })
+}
+
+/// Appends an area, where there is one.
+fn push(areas: &mut Vec<Area>, area: Option<Area>) -> Result<(), Memory>
+    ensures { OnOk result (areas.new.items ≡ areas.old.items ++ option_to_list area) }
+{
+    if let Some(area) = area {
+        areas.push(area)?;
+    }
+    Ok(())
+}
+
+/// Appends the areas that an expression refers to, from left to right.
+#[cycle(refer)]
+pub(crate) fn push_areas(areas: &mut Vec<Area>, sheet: &Sheet, expr: &Expr) -> Result<(), Memory>
+    ensures { OnOk result (areas.new.items ≡ areas.old.items ++ expr_areas (placed_in sheet.now).rows (placed_in sheet.now).cols expr.now) }
+{
+    match expr {
+        Expr::Cell(spot) => push(areas, area_at(sheet, spot)),
+        Expr::Range(span) => push(areas, area_over(sheet, span)),
+        Expr::Pre(_, e) => push_areas(areas, sheet, e),
+        Expr::Bin(_, d, e) => {
+            push_areas(areas, sheet, d)?;
+            push_areas(areas, sheet, e)
+        }
+        Expr::Call(_, args) => push_all(areas, sheet, args.as_slice()),
+        _ => Ok(()),
+    }
+}
+
+/// The same of several expressions.
+#[cycle(refer)]
+fn push_all(areas: &mut Vec<Area>, sheet: &Sheet, exprs: &[Expr]) -> Result<(), Memory>
+    ensures { OnOk result (areas.new.items ≡ areas.old.items ++ flat_map (expr_areas (placed_in sheet.now).rows (placed_in sheet.now).cols) exprs.now) }
+{
+    for e in exprs {
+        push_areas(areas, sheet, e)?;
+    }
+    Ok(())
+}
