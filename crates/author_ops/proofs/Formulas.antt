@@ -8,12 +8,9 @@ use Rattle.formula_tree.specs.Tree.{Tree}
 use Rattle.formula_tree.specs.Remap.{mapped, IsMapped, IsSpotMapped, IsSpanMapped}
 use Rattle.formula_read.specs.declared.kinds.ParseErr.{ParseErr}
 use Rattle.formula_read.specs.declared.kinds.ParseErr.TheVariants as parse_err
-use Rattle.formula_tree.specs.Grammar.{Stands}
-use Rattle.formula_read.specs.Nested.{ReadAs}
-use Rattle.formula_read.specs.Places.{IsFormulaText}
-use Rattle.formula_read.specs.Read.{IsLongestFormulaFront}
+use Rattle.formula_tree.specs.Grammar.{Stands, IsFormulaText}
 use Rattle.formula_read.proofs.Spellings.{one_formula}
-use Rattle.formula_read.specs.Readings.{Reading, formula, stops, IsReading}
+use Rattle.formula_read.specs.Readings.{Reading, formula, stops, IsReading, IsLongestFormulaFront, ReadAs}
 use Rattle.sheet_ops.specs.declared.content.Content.{Content}
 use Rattle.sheet_ops.specs.declared.content.Content.TheVariants as content
 use Rattle.sheet_ops.specs.declared.edit.EditErr.{EditErr}

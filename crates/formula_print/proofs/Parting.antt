@@ -9,11 +9,16 @@ use Rattle.formula_tree.specs.Lexing.{space_count, past_spaces}
 use Rattle.formula_read.specs.declared.kinds.TokenKind.TheVariants as kind
 use Rattle.formula_read.specs.Read.{token_kind}
 use Rattle.formula_read.specs.Behind.{goes_on}
-use Rattle.formula_read.specs.Reading.{begins_operand, begins_sign}
+use Rattle.formula_read.specs.Partial.{is_single_sign}
+use Rattle.formula_read.specs.Classes.{begins_word}
+
+-- a leaf, a name, an opening bracket or a prefix sign begins with the byte
+abbrev pub begins_operand : ℕ → Bool
+begins_operand b = begins_word b || (nat_eq b 40 || (nat_eq b 43 || nat_eq b 45))
 
 -- a byte behind an operand: an operator's, `)` or `;`
 abbrev pub ends_operand : ℕ → Bool
-ends_operand b = begins_sign b || (nat_eq b 41 || nat_eq b 59)
+ends_operand b = is_single_sign b || (nat_eq b 60 || (nat_eq b 62 || (nat_eq b 41 || nat_eq b 59)))
 
 -- nothing stands behind an operand, or such a byte
 abbrev pub is_behind : List ℕ → Bool

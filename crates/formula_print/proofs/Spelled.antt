@@ -22,8 +22,7 @@ use Rattle.formula_tree.specs.Tokens.{TokenValue, Spells, SpellsRange, is_name, 
 use Rattle.formula_tree.specs.Tokens as token
 use Rattle.formula_tree.specs.Grammar.{operator_of_sign}
 use Rattle.formula_tree.specs.WellFormed.{IsFun, IsRange}
-use Rattle.formula_read.specs.Reading.{begins_operand}
-use Rattle.formula_print.proofs.Parting.{is_operand, is_behind}
+use Rattle.formula_print.proofs.Parting.{begins_operand, is_operand, is_behind}
 
 -- what cell_addr says of addresses
 abbrev pub ReadsCells : Type 0

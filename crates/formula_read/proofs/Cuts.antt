@@ -85,15 +85,7 @@ follows_too (token.name n) (b ∷ x) u v some (more, e) = (x ++ v, λ i. first e
   where
     first : {a b : ℕ} {xs ys : List ℕ} → a ∷ xs ≡ b ∷ ys → a ≡ b
     first e = cc
-follows_too (token.numeral _) x u v some h = tt
-follows_too (token.text _) x u v some h = tt
-follows_too (token.fault _) x u v some h = tt
-follows_too (token.cell _) x u v some h = tt
-follows_too (token.range _) x u v some h = tt
-follows_too (token.sign _) x u v some h = tt
-follows_too token.opening x u v some h = tt
-follows_too token.closing x u v some h = tt
-follows_too token.semicolon x u v some h = tt
+follows_too t x u v some h = tt
 
 pub fits_too : (p : List ℕ) (t : TokenValue) (x u v : List ℕ) → x ≢ [] → Fits p t (x ++ u) → Fits p t (x ++ v)
 fits_too p t x u v some h = (h.0, follows_too t x u v some h.1)

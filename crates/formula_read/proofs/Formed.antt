@@ -10,7 +10,7 @@ use Rattle.formula_tree.specs.Tree as tree
 use Rattle.formula_tree.specs.Precedence.{precedence_of, precedence_of_operator}
 use Rattle.formula_tree.specs.Measures.{placed_nesting, print_nesting, greatest_nesting, node_count, node_counts}
 use Rattle.formula_tree.specs.WellFormed.{IsCell, IsRange, IsWellFormed, AreWellFormed, IsFormula}
-use Rattle.formula_tree.specs.Tokens.{TokenValue, Spells, IsNext, is_printable, numeral, text, fault, cell, range, name, sign, opening, closing, semicolon}
+use Rattle.formula_tree.specs.Tokens.{TokenValue, Spells, IsNext, is_printable, numeral, text, cell, range, sign, closing, semicolon}
 use Rattle.formula_tree.specs.Lexing.{Lexeme, Lexes, space_count, past_spaces}
 use Rattle.formula_tree.specs.Lexing as cut
 use Rattle.formula_tree.specs.Grammar.{Derives, Arguments, Listed, Stands}
@@ -33,12 +33,7 @@ spelled p (numeral n) h = h.2
 spelled p (text t) h = h.1
 spelled p (cell c) h = cell_within p c h
 spelled p (range r) h = range_is_range p r h
-spelled p (fault e) h = tt
-spelled p (name n) h = tt
-spelled p (sign op) h = tt
-spelled p opening h = tt
-spelled p closing h = tt
-spelled p semicolon h = tt
+spelled p t h = tt
 
 abbrev AreSpelled : List TokenValue → Type 0
 AreSpelled [] = Unit {0}
@@ -88,14 +83,8 @@ abbrev placed : ℕ → Tree Spot Span → ℕ
 placed p t = placed_nesting p (precedence_of t) (print_nesting t)
 
 some_precedence : (t : Tree Spot Span) → 1 ≤ precedence_of t
-some_precedence (tree.num _) = omega arith
-some_precedence (tree.text _) = omega arith
-some_precedence (tree.fault _) = omega arith
-some_precedence (tree.cell _) = omega arith
-some_precedence (tree.range _) = omega arith
-some_precedence (tree.pre op t) = omega arith
 some_precedence (tree.bin op s t) = least_precedence op
-some_precedence (tree.call f ts) = omega arith
+some_precedence t = omega arith
 
 -- brackets round a tree, and none
 unplaced : (t : Tree Spot Span) (n : ℕ) → placed 1 t ≤ n → print_nesting t ≤ n

@@ -57,27 +57,15 @@ opens [] h = absurd (cc)
 opens (b ∷ bs) h = (bs, λ i. same_number b 40 h i ∷ bs)
 
 address_fits : (a : Address) (p r : List ℕ) (k : TokenKind) → AddressHolds a p → address_kind a ≡ Some k → FitsAs p r k
-address_fits Neither p r k h m = nothing m
-address_fits (Cell Start) p r k h m = nothing m
-address_fits (Cell Dollar) p r k h m = nothing m
-address_fits (Cell (Letters n)) p r k h m = nothing m
-address_fits (Cell Fixed) p r k h m = nothing m
 address_fits (Cell (Digits n)) p r k h m = let (c, e) = spelled_cell n p h in (token.cell c, (e, tt), same m)
-address_fits (Range Start) p r k h m = nothing m
-address_fits (Range Dollar) p r k h m = nothing m
-address_fits (Range (Letters n)) p r k h m = nothing m
-address_fits (Range Fixed) p r k h m = nothing m
 address_fits (Range (Digits n)) p r k (first, last, a, cell, h, e) m =
     let (b, f) = spelled_cell n last h in
     (token.range (range_between a b), ((first, last, a, b, e, cell, f, refl), tt), same m)
+address_fits a p r k h m = nothing m
 
 pub sound : (s : Partial) (p r : List ℕ) (k : TokenKind) → Holds s p → kind_at s (first_byte r) ≡ Some k → FitsAs p r k
-sound Fresh p r k h m = nothing m
 sound (Numeral v) p r k h m = (token.numeral v, (h, tt), same m)
-sound Quoted p r k h m = nothing m
 sound Closed p r k (t, e, all) m = (token.text t, ((e, all), tt), same m)
-sound Hash p r k h m = nothing m
-sound HashN p r k h m = nothing m
 sound (Error e n) p r k h m = on_test (nat_eq n (length (error_name e))) _ _ k m
     (λ t m. (token.fault e, (h.0 ∙ (ap (λ (n : ℕ). take n (error_name e)) (same_number _ _ t) ∙ whole (error_name e)), tt), same m))
     (λ _ m. nothing m)
@@ -93,6 +81,7 @@ sound (Word n a) p r k h m = on_test (nat_lt 0 n && is_open (first_byte r)) _ _ 
 sound Less p r k h m = (token.sign Lt, (h, tt), same m)
 sound Greater p r k h m = (token.sign Gt, (h, tt), same m)
 sound (Whole j) p r k (t, spells, e, follows) m = (t, (spells, follows r), e ∙ same m)
+sound s p r k h m = nothing m
 
 -- the reader ends a token here
 abbrev pub Ends : List ℕ → List ℕ → TokenKind → Type 0
@@ -200,9 +189,7 @@ plain_ends p (token.sign op) r _ (h, _) =
 plain_ends p token.opening r _ (h, _) = (Whole kind.Open, ap (λ (l : List ℕ). partial_after (Some Fresh) l) h, refl)
 plain_ends p token.closing r _ (h, _) = (Whole kind.Close, ap (λ (l : List ℕ). partial_after (Some Fresh) l) h, refl)
 plain_ends p token.semicolon r _ (h, _) = (Whole kind.Semi, ap (λ (l : List ℕ). partial_after (Some Fresh) l) h, refl)
-plain_ends p (token.cell c) r plain h = absurd (cc)
-plain_ends p (token.range c) r plain h = absurd (cc)
-plain_ends p (token.name c) r plain h = absurd (cc)
+plain_ends p t r plain h = absurd (cc)
 
 pub complete : (p : List ℕ) (t : TokenValue) (r : List ℕ) → Fits p t r → (k : TokenKind) × Ends p r k
 complete p (token.cell c) r (h, _) =
@@ -214,13 +201,7 @@ complete p (token.range s) r ((first, last, a, b, e, f, l, _), _) =
     let (k, ends) = whole_word n (Range (Digits m)) (first_byte r) kind.Range refl in
     (k, (Word n (Range (Digits m)), runs, ends))
 complete p (token.name n) r h = (kind.Name, name_ends p n r h)
-complete p (token.numeral n) r h = (kind.Numeral, plain_ends p (token.numeral n) r refl h)
-complete p (token.text n) r h = (kind.Text, plain_ends p (token.text n) r refl h)
-complete p (token.fault n) r h = (kind.Error, plain_ends p (token.fault n) r refl h)
-complete p (token.sign n) r h = (kind.Sign, plain_ends p (token.sign n) r refl h)
-complete p token.opening r h = (kind.Open, plain_ends p token.opening r refl h)
-complete p token.closing r h = (kind.Close, plain_ends p token.closing r refl h)
-complete p token.semicolon r h = (kind.Semi, plain_ends p token.semicolon r refl h)
+complete p t r h = (token_kind t, plain_ends p t r refl h)
 
 -- every front of an address is one's
 corner_ends : (c : Corner) (p : List ℕ) → CornerHolds c p → (y : List ℕ) × (s : Spot) × (cell_of (p ++ y) ≡ Some s)

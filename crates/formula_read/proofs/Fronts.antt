@@ -1,12 +1,12 @@
 -- where the reader of bytes stands, a formula begins so
-use Rattle.std.proofs.Common.{◌≡◌, ◌≢◌, ℕ, ◌+◌, ◌<◌, ◌≤◌, Bool, true, false, cond, ◌&&◌, ◌||◌, nat_lt, nat_eq, List, [], ◌∷◌, ◌++◌, length, Option, Some, None, refl, ap, sym, ◌∙◌, subst, append_assoc, arith, inl, inr}
-use Rattle.std.specs.Prelude.{◌⊎◌, is_some}
+use Rattle.std.proofs.Common.{◌≡◌, ◌≢◌, ℕ, ◌+◌, ◌<◌, ◌≤◌, Bool, true, false, cond, ◌&&◌, nat_lt, nat_eq, List, [], ◌∷◌, ◌++◌, length, Option, Some, None, refl, ap, sym, ◌∙◌, subst, append_assoc, arith, inl, inr}
+use Rattle.std.specs.Prelude.{◌⊎◌, option_and_then}
+use Rattle.std.specs.Option.{option_zip}
 use Rattle.std.specs.Char.{is_ascii_alphabetic}
 use Rattle.std.proofs.lemmas.Bool.{cases_lt, and_parts}
-use Rattle.std.proofs.lemmas.Bool.Decides.{nat_tests}
 use Rattle.std.proofs.lemmas.List.{append-nil}
 use Rattle.formula_tree.specs.declared.operators.BinOp.{BinOp}
-use Rattle.formula_tree.specs.declared.operators.BinOp.TheVariants.{Pow, Mul, Div, Add, Sub, Join, Eq, Ne, Lt, Le, Gt, Ge}
+use Rattle.formula_tree.specs.declared.operators.BinOp.TheVariants.{Eq}
 use Rattle.formula_tree.specs.Tokens.{TokenValue, Spells, Follows, Fits, IsNext, is_name, is_name_byte, sign_text, error_name}
 use Rattle.formula_tree.specs.Tokens as token
 use Rattle.formula_tree.specs.Lexing.{Lexeme, Lexes, space_count, past_spaces}
@@ -14,18 +14,21 @@ use Rattle.formula_tree.specs.Lexing as cut
 use Rattle.formula_read.specs.declared.kinds.TokenKind.{TokenKind}
 use Rattle.formula_read.specs.declared.kinds.TokenKind.TheVariants as kind
 use Rattle.formula_read.specs.declared.partial.Partial.{Partial}
-use Rattle.formula_read.specs.declared.partial.Partial.TheVariants.{Fresh, Numeral, Quoted, Closed, Hash, HashN, Error, Word, Less, Greater, Whole}
-use Rattle.formula_read.specs.declared.partial.Address.{Address}
-use Rattle.formula_read.specs.declared.partial.Address.TheVariants.{Neither, Cell, Range}
-use Rattle.formula_read.specs.declared.partial.Corner.TheVariants.{Start, Dollar, Letters, Fixed, Digits}
-use Rattle.formula_read.specs.Partial.{partial_step, fresh_step, address_kind, is_open, kind_at}
+use Rattle.formula_read.specs.declared.partial.Partial.TheVariants.{Fresh, Numeral, Closed, Error, Word, Less, Greater, Whole}
+use Rattle.formula_read.specs.declared.partial.Address.TheVariants.{Cell, Range}
+use Rattle.formula_read.specs.declared.partial.Corner.TheVariants.{Digits}
+use Rattle.formula_read.specs.Partial.{partial_step, fresh_step, is_open, kind_at}
 use Rattle.formula_read.specs.Longest.{partial_after}
 use Rattle.formula_tree.specs.Grammar.{IsFront, IsFormulaText}
 use Rattle.formula_read.specs.Read.{token_kind}
 use Rattle.formula_read.specs.declared.brackets.Bracket.{Bracket}
-use Rattle.formula_read.specs.declared.brackets.Bracket.TheVariants.{Group, Call}
-use Rattle.formula_read.specs.Places.{Place, head, wants, has, named, begins, operand, behind_closing, behind_semicolon, advance, advance_all, tokens_of}
-use Rattle.formula_read.specs.Reading.{after_kind, begins_leaf, begins_operand, begins_sign, admits, with_token, read_first, read_between, read_between_at, place_after, inside, is_fresh, read_byte, read_text, place_at_end, place_ended}
+use Rattle.formula_read.specs.declared.brackets.Bracket.TheVariants.{Call}
+use Rattle.formula_read.specs.declared.class.SignClass.{SignClass}
+use Rattle.formula_read.specs.declared.class.SignClass.TheVariants.{Prefix, Equals}
+use Rattle.formula_read.specs.declared.class.TokenClass.TheVariants as class
+use Rattle.formula_read.specs.Classes.{sign_class}
+use Rattle.formula_read.specs.Places.{Place, head, wants, has, named, begins, after, advance, advance_all, tokens_of}
+use Rattle.formula_read.specs.Reading.{after_begun, read_first, read_between, read_between_at, behind_token, place_after, is_inside, inside, is_fresh, read_byte, read_text, place_at_end, place_ended}
 use Rattle.formula_read.proofs.Words.{run_cell, run_range, run_name}
 use Rattle.formula_read.proofs.Choices.{on_test, nothing, same, same_number}
 use Rattle.formula_read.proofs.Forms.{Ends, run-append, fresh_holds, sound, name_ends, plain_ends}
@@ -37,129 +40,15 @@ use Rattle.formula_read.proofs.Cuts.{cut_tight, fits_too, last_token}
 use Rattle.formula_read.proofs.Splits.{shorter_front}
 use Rattle.formula_read.proofs.Syntax.{advance_all-append}
 use Rattle.formula_read.proofs.Functions.{read_tokens}
-use Rattle.formula_read.proofs.Bytes.{Starts, starts, advance_kind, leaf_stops, word_stops, other, is_leaf_kind, first_of, no_space, leaf_place, is_inside}
+use Rattle.formula_read.proofs.Bytes.{Starts, starts, place_by_kind, advance_begun, leaf_stops, word_stops, other, is_leaf_kind, first_of, no_space, no_sign, leaf_place}
 
 -- a clash of a test
 clash : {G : Type 0} (f : ℕ → Bool) (b c : ℕ) → c ≡ b → f b ≡ true → f c ≡ false → G
 clash f b c e h k = absurd (let wrong : true ≡ false = sym h ∙ (ap f (sym e) ∙ k) in cc)
 
-leaf_no_sign : {G : Type 0} (b : ℕ) (t : Bool) (u : Bool) → begins_leaf b ≡ true → (begins_sign b || ((nat_eq b 41 && t) || (nat_eq b 59 && u))) ≡ true → G
-leaf_no_sign b t u h k = absurd (grind (arith, nat_tests))
-
-leaf_no : {G : Type 0} (b c : ℕ) → begins_leaf b ≡ true → nat_eq b c ≡ true → begins_leaf c ≡ false → G
-leaf_no b c h e k = clash begins_leaf b c (sym (same_number b c e)) h k
-
-some_of : {A : Type 0} (o : Option A) → is_some o ≡ true → (x : A) × (o ≡ Some x)
-some_of None h = absurd (cc)
-some_of (Some x) h = (x, refl)
-
--- where the place admits a token's first byte, the token may stand there
-operand_some : (ds : List Bracket) (t : TokenValue) (b : ℕ) → Starts t b → begins_operand b ≡ true → (p : Place) × (operand ds t ≡ Some p)
-operand_some ds (token.numeral n) b h a = (has ds, refl)
-operand_some ds (token.text n) b h a = (has ds, refl)
-operand_some ds (token.fault n) b h a = (has ds, refl)
-operand_some ds (token.cell n) b h a = (has ds, refl)
-operand_some ds (token.range n) b h a = (has ds, refl)
-operand_some ds (token.name n) b h a = (named ds, refl)
-operand_some ds (token.sign Pow) b h a = clash begins_operand b _ (first_of h.1) a refl
-operand_some ds (token.sign Mul) b h a = clash begins_operand b _ (first_of h.1) a refl
-operand_some ds (token.sign Div) b h a = clash begins_operand b _ (first_of h.1) a refl
-operand_some ds (token.sign Add) b h a = (wants ds, refl)
-operand_some ds (token.sign Sub) b h a = (wants ds, refl)
-operand_some ds (token.sign Join) b h a = clash begins_operand b _ (first_of h.1) a refl
-operand_some ds (token.sign Eq) b h a = clash begins_operand b _ (first_of h.1) a refl
-operand_some ds (token.sign Ne) b h a = clash begins_operand b _ (first_of h.1) a refl
-operand_some ds (token.sign Lt) b h a = clash begins_operand b _ (first_of h.1) a refl
-operand_some ds (token.sign Le) b h a = clash begins_operand b _ (first_of h.1) a refl
-operand_some ds (token.sign Gt) b h a = clash begins_operand b _ (first_of h.1) a refl
-operand_some ds (token.sign Ge) b h a = clash begins_operand b _ (first_of h.1) a refl
-operand_some ds token.opening b h a = (wants (Group ∷ ds), refl)
-operand_some ds token.closing b h a = clash begins_operand b 41 (sym h) a refl
-operand_some ds token.semicolon b h a = clash begins_operand b 59 (sym h) a refl
-
-advance_some : (q : Place) (t : TokenValue) (b : ℕ) → Starts t b → admits q b ≡ true → (p : Place) × (advance q t ≡ Some p)
-advance_some head (token.numeral n) b h a = leaf_no b 61 h a refl
-advance_some head (token.text n) b h a = leaf_no b 61 h a refl
-advance_some head (token.fault n) b h a = leaf_no b 61 h a refl
-advance_some head (token.cell n) b h a = leaf_no b 61 h a refl
-advance_some head (token.range n) b h a = leaf_no b 61 h a refl
-advance_some head (token.name n) b h a = leaf_no b 61 h a refl
-advance_some head (token.sign Pow) b h a = clash (λ (b : ℕ). nat_eq b 61) b _ (first_of h.1) a refl
-advance_some head (token.sign Mul) b h a = clash (λ (b : ℕ). nat_eq b 61) b _ (first_of h.1) a refl
-advance_some head (token.sign Div) b h a = clash (λ (b : ℕ). nat_eq b 61) b _ (first_of h.1) a refl
-advance_some head (token.sign Add) b h a = clash (λ (b : ℕ). nat_eq b 61) b _ (first_of h.1) a refl
-advance_some head (token.sign Sub) b h a = clash (λ (b : ℕ). nat_eq b 61) b _ (first_of h.1) a refl
-advance_some head (token.sign Join) b h a = clash (λ (b : ℕ). nat_eq b 61) b _ (first_of h.1) a refl
-advance_some head (token.sign Eq) b h a = (wants [], refl)
-advance_some head (token.sign Ne) b h a = clash (λ (b : ℕ). nat_eq b 61) b _ (first_of h.1) a refl
-advance_some head (token.sign Lt) b h a = clash (λ (b : ℕ). nat_eq b 61) b _ (first_of h.1) a refl
-advance_some head (token.sign Le) b h a = clash (λ (b : ℕ). nat_eq b 61) b _ (first_of h.1) a refl
-advance_some head (token.sign Gt) b h a = clash (λ (b : ℕ). nat_eq b 61) b _ (first_of h.1) a refl
-advance_some head (token.sign Ge) b h a = clash (λ (b : ℕ). nat_eq b 61) b _ (first_of h.1) a refl
-advance_some head token.opening b h a = clash (λ (b : ℕ). nat_eq b 61) b 40 (sym h) a refl
-advance_some head token.closing b h a = clash (λ (b : ℕ). nat_eq b 61) b 41 (sym h) a refl
-advance_some head token.semicolon b h a = clash (λ (b : ℕ). nat_eq b 61) b 59 (sym h) a refl
-advance_some (wants ds) t b h a = operand_some ds t b h a
-advance_some (has ds) (token.numeral n) b h a = leaf_no_sign b (is_some (behind_closing ds)) (is_some (behind_semicolon ds)) h a
-advance_some (has ds) (token.text n) b h a = leaf_no_sign b (is_some (behind_closing ds)) (is_some (behind_semicolon ds)) h a
-advance_some (has ds) (token.fault n) b h a = leaf_no_sign b (is_some (behind_closing ds)) (is_some (behind_semicolon ds)) h a
-advance_some (has ds) (token.cell n) b h a = leaf_no_sign b (is_some (behind_closing ds)) (is_some (behind_semicolon ds)) h a
-advance_some (has ds) (token.range n) b h a = leaf_no_sign b (is_some (behind_closing ds)) (is_some (behind_semicolon ds)) h a
-advance_some (has ds) (token.name n) b h a = leaf_no_sign b (is_some (behind_closing ds)) (is_some (behind_semicolon ds)) h a
-advance_some (has ds) (token.sign op) b h a = (wants ds, refl)
-advance_some (has ds) token.opening b h a = clash (admits (has ds)) b 40 (sym h) a refl
-advance_some (has ds) token.closing b h a = some_of (behind_closing ds) (closing_some (is_some (behind_closing ds)) (is_some (behind_semicolon ds)) (ap (λ (b : ℕ). begins_sign b || ((nat_eq b 41 && is_some (behind_closing ds)) || (nat_eq b 59 && is_some (behind_semicolon ds)))) (sym h) ∙ a))
-  where
-    closing_some : (t u : Bool) → (begins_sign 41 || ((nat_eq 41 41 && t) || (nat_eq 41 59 && u))) ≡ true → t ≡ true
-    closing_some true u k = refl
-    closing_some false u k = absurd (cc)
-advance_some (has ds) token.semicolon b h a = some_of (behind_semicolon ds) (parted_some (is_some (behind_closing ds)) (is_some (behind_semicolon ds)) (ap (λ (b : ℕ). begins_sign b || ((nat_eq b 41 && is_some (behind_closing ds)) || (nat_eq b 59 && is_some (behind_semicolon ds)))) (sym h) ∙ a))
-  where
-    parted_some : (t u : Bool) → (begins_sign 59 || ((nat_eq 59 41 && t) || (nat_eq 59 59 && u))) ≡ true → u ≡ true
-    parted_some t true k = refl
-    parted_some t false k = absurd (cc)
-advance_some (named ds) (token.numeral n) b h a = leaf_no b 40 h a refl
-advance_some (named ds) (token.text n) b h a = leaf_no b 40 h a refl
-advance_some (named ds) (token.fault n) b h a = leaf_no b 40 h a refl
-advance_some (named ds) (token.cell n) b h a = leaf_no b 40 h a refl
-advance_some (named ds) (token.range n) b h a = leaf_no b 40 h a refl
-advance_some (named ds) (token.name n) b h a = leaf_no b 40 h a refl
-advance_some (named ds) (token.sign Pow) b h a = clash (λ (b : ℕ). nat_eq b 40) b _ (first_of h.1) a refl
-advance_some (named ds) (token.sign Mul) b h a = clash (λ (b : ℕ). nat_eq b 40) b _ (first_of h.1) a refl
-advance_some (named ds) (token.sign Div) b h a = clash (λ (b : ℕ). nat_eq b 40) b _ (first_of h.1) a refl
-advance_some (named ds) (token.sign Add) b h a = clash (λ (b : ℕ). nat_eq b 40) b _ (first_of h.1) a refl
-advance_some (named ds) (token.sign Sub) b h a = clash (λ (b : ℕ). nat_eq b 40) b _ (first_of h.1) a refl
-advance_some (named ds) (token.sign Join) b h a = clash (λ (b : ℕ). nat_eq b 40) b _ (first_of h.1) a refl
-advance_some (named ds) (token.sign Eq) b h a = clash (λ (b : ℕ). nat_eq b 40) b _ (first_of h.1) a refl
-advance_some (named ds) (token.sign Ne) b h a = clash (λ (b : ℕ). nat_eq b 40) b _ (first_of h.1) a refl
-advance_some (named ds) (token.sign Lt) b h a = clash (λ (b : ℕ). nat_eq b 40) b _ (first_of h.1) a refl
-advance_some (named ds) (token.sign Le) b h a = clash (λ (b : ℕ). nat_eq b 40) b _ (first_of h.1) a refl
-advance_some (named ds) (token.sign Gt) b h a = clash (λ (b : ℕ). nat_eq b 40) b _ (first_of h.1) a refl
-advance_some (named ds) (token.sign Ge) b h a = clash (λ (b : ℕ). nat_eq b 40) b _ (first_of h.1) a refl
-advance_some (named ds) token.opening b h a = (begins ds, refl)
-advance_some (named ds) token.closing b h a = clash (λ (b : ℕ). nat_eq b 40) b 41 (sym h) a refl
-advance_some (named ds) token.semicolon b h a = clash (λ (b : ℕ). nat_eq b 40) b 59 (sym h) a refl
-advance_some (begins ds) token.closing b h a = (has ds, refl)
-advance_some (begins ds) (token.numeral n) b h a = (has (Call ∷ ds), refl)
-advance_some (begins ds) (token.text n) b h a = (has (Call ∷ ds), refl)
-advance_some (begins ds) (token.fault n) b h a = (has (Call ∷ ds), refl)
-advance_some (begins ds) (token.cell n) b h a = (has (Call ∷ ds), refl)
-advance_some (begins ds) (token.range n) b h a = (has (Call ∷ ds), refl)
-advance_some (begins ds) (token.name n) b h a = (named (Call ∷ ds), refl)
-advance_some (begins ds) (token.sign Pow) b h a = clash (admits (begins ds)) b _ (first_of h.1) a refl
-advance_some (begins ds) (token.sign Mul) b h a = clash (admits (begins ds)) b _ (first_of h.1) a refl
-advance_some (begins ds) (token.sign Div) b h a = clash (admits (begins ds)) b _ (first_of h.1) a refl
-advance_some (begins ds) (token.sign Add) b h a = (wants (Call ∷ ds), refl)
-advance_some (begins ds) (token.sign Sub) b h a = (wants (Call ∷ ds), refl)
-advance_some (begins ds) (token.sign Join) b h a = clash (admits (begins ds)) b _ (first_of h.1) a refl
-advance_some (begins ds) (token.sign Eq) b h a = clash (admits (begins ds)) b _ (first_of h.1) a refl
-advance_some (begins ds) (token.sign Ne) b h a = clash (admits (begins ds)) b _ (first_of h.1) a refl
-advance_some (begins ds) (token.sign Lt) b h a = clash (admits (begins ds)) b _ (first_of h.1) a refl
-advance_some (begins ds) (token.sign Le) b h a = clash (admits (begins ds)) b _ (first_of h.1) a refl
-advance_some (begins ds) (token.sign Gt) b h a = clash (admits (begins ds)) b _ (first_of h.1) a refl
-advance_some (begins ds) (token.sign Ge) b h a = clash (admits (begins ds)) b _ (first_of h.1) a refl
-advance_some (begins ds) token.opening b h a = (wants (Group ∷ Call ∷ ds), refl)
-advance_some (begins ds) token.semicolon b h a = clash (admits (begins ds)) b 59 (sym h) a refl
+-- where a token's first byte leads, the token does
+leads_on : (p q : Place) (t : TokenValue) (b : ℕ) → Starts t b → after_begun p b ≡ Some q → advance p t ≡ Some (behind_token (token_kind t) q)
+leads_on p q t b h m = advance_begun p t ∙ ap (place_by_kind (token_kind t)) (sym (ap (option_and_then (after p)) h) ∙ m)
 
 -- a text cut into these tokens, wherever it stands
 abbrev CutAs : List ℕ → List TokenValue → Type 0
@@ -277,52 +166,17 @@ ending_read (named ds) = close_all ds
 ending_read (begins ds) = close_all ds
 
 -- behind a sign, and behind a name
-sign_place : (q : Place) (op : BinOp) (p : Place) → advance q (token.sign op) ≡ Some p → (ds : List Bracket) × (wants ds ≡ p)
-sign_place head Pow p m = nothing m
-sign_place (wants ds) Pow p m = nothing m
-sign_place (begins ds) Pow p m = nothing m
-sign_place head Mul p m = nothing m
-sign_place (wants ds) Mul p m = nothing m
-sign_place (begins ds) Mul p m = nothing m
-sign_place head Div p m = nothing m
-sign_place (wants ds) Div p m = nothing m
-sign_place (begins ds) Div p m = nothing m
-sign_place head Add p m = nothing m
-sign_place (wants ds) Add p m = (ds, same m)
-sign_place (begins ds) Add p m = (Call ∷ ds, same m)
-sign_place head Sub p m = nothing m
-sign_place (wants ds) Sub p m = (ds, same m)
-sign_place (begins ds) Sub p m = (Call ∷ ds, same m)
-sign_place head Join p m = nothing m
-sign_place (wants ds) Join p m = nothing m
-sign_place (begins ds) Join p m = nothing m
-sign_place head Eq p m = ([], same m)
-sign_place (wants ds) Eq p m = nothing m
-sign_place (begins ds) Eq p m = nothing m
-sign_place head Ne p m = nothing m
-sign_place (wants ds) Ne p m = nothing m
-sign_place (begins ds) Ne p m = nothing m
-sign_place head Lt p m = nothing m
-sign_place (wants ds) Lt p m = nothing m
-sign_place (begins ds) Lt p m = nothing m
-sign_place head Le p m = nothing m
-sign_place (wants ds) Le p m = nothing m
-sign_place (begins ds) Le p m = nothing m
-sign_place head Gt p m = nothing m
-sign_place (wants ds) Gt p m = nothing m
-sign_place (begins ds) Gt p m = nothing m
-sign_place head Ge p m = nothing m
-sign_place (wants ds) Ge p m = nothing m
-sign_place (begins ds) Ge p m = nothing m
-sign_place (has ds) op p m = (ds, same m)
-sign_place (named ds) op p m = nothing m
+sign_place : (q : Place) (s : SignClass) (p : Place) → after q (class.Sign s) ≡ Some p → (ds : List Bracket) × (wants ds ≡ p)
+sign_place head Equals p m = ([], same m)
+sign_place (wants ds) Prefix p m = (ds, same m)
+sign_place (has ds) s p m = (ds, same m)
+sign_place (begins ds) Prefix p m = (Call ∷ ds, same m)
+sign_place q s p m = nothing m
 
-name_place : (q : Place) (n : List ℕ) (p : Place) → advance q (token.name n) ≡ Some p → (ds : List Bracket) × (named ds ≡ p)
-name_place head n p m = nothing m
-name_place (wants ds) n p m = (ds, same m)
-name_place (has ds) n p m = nothing m
-name_place (named ds) n p m = nothing m
-name_place (begins ds) n p m = (Call ∷ ds, same m)
+name_place : (q p : Place) → after q class.Name ≡ Some p → (ds : List Bracket) × (named ds ≡ p)
+name_place (wants ds) p m = (ds, same m)
+name_place (begins ds) p m = (Call ∷ ds, same m)
+name_place q p m = nothing m
 
 -- a token that leads to a place is the next one before what ends the formula there
 leaf_next : (piece : List ℕ) (t : TokenValue) (ds : List Bracket) → Spells piece t → ((r : List ℕ) → Follows t r) → ((s : Partial) → partial_after (Some Fresh) piece ≡ Some s → partial_step s 41 ≡ None) → IsNext piece t (close_bytes ds)
@@ -340,52 +194,36 @@ sign_next : (piece : List ℕ) (op : BinOp) (ds : List Bracket) → Spells piece
 sign_next piece op ds spells s runs ends = stopped piece (token.sign op) s 49 (close_bytes ds) (spells, tt) runs (stops s ends) (λ n f. no_name_before piece 49 (close_bytes ds) n refl f)
   where
     stops : (s : Partial) → kind_at s (Some 49) ≡ Some kind.Sign → partial_step s 49 ≡ None
-    stops Fresh e = nothing e
     stops (Numeral v) e = absurd (cc)
-    stops Quoted e = nothing e
     stops Closed e = absurd (cc)
-    stops Hash e = nothing e
-    stops HashN e = nothing e
     stops (Error x m) e = on_test (nat_eq m (length (error_name x))) _ _ kind.Sign e (λ _ f. absurd (cc)) (λ _ f. nothing f)
     stops (Word m a) e = on_test (nat_lt 0 m && is_open (Some 49)) _ _ kind.Sign e (λ _ f. absurd (cc)) (λ _ f. no_sign a f)
-      where
-        no_sign : {G : Type 0} (a : Address) → address_kind a ≡ Some kind.Sign → G
-        no_sign Neither f = nothing f
-        no_sign (Cell Start) f = nothing f
-        no_sign (Cell Dollar) f = nothing f
-        no_sign (Cell (Letters n)) f = nothing f
-        no_sign (Cell Fixed) f = nothing f
-        no_sign (Cell (Digits n)) f = absurd (cc)
-        no_sign (Range Start) f = nothing f
-        no_sign (Range Dollar) f = nothing f
-        no_sign (Range (Letters n)) f = nothing f
-        no_sign (Range Fixed) f = nothing f
-        no_sign (Range (Digits n)) f = absurd (cc)
     stops Less e = refl
     stops Greater e = refl
     stops (Whole k) e = refl
+    stops s e = nothing e
 
 next_ending : (q : Place) (t : TokenValue) (p : Place) (piece : List ℕ) → advance q t ≡ Some p → Spells piece t → IsNext piece t (ending_bytes p)
-next_ending q (token.numeral n) p piece m h = let (ds, e) = leaf_place q (token.numeral n) p refl m in subst (λ (p : Place). IsNext piece (token.numeral n) (ending_bytes p)) e (leaf_next piece (token.numeral n) ds h (λ r. tt) (plain_stops piece (token.numeral n) refl refl (h, tt)))
-next_ending q (token.text n) p piece m h = let (ds, e) = leaf_place q (token.text n) p refl m in subst (λ (p : Place). IsNext piece (token.text n) (ending_bytes p)) e (leaf_next piece (token.text n) ds h (λ r. tt) (plain_stops piece (token.text n) refl refl (h, tt)))
-next_ending q (token.fault n) p piece m h = let (ds, e) = leaf_place q (token.fault n) p refl m in subst (λ (p : Place). IsNext piece (token.fault n) (ending_bytes p)) e (leaf_next piece (token.fault n) ds h (λ r. tt) (plain_stops piece (token.fault n) refl refl (h, tt)))
+next_ending q (token.numeral n) p piece m h = let (ds, e) = leaf_place q p m in subst (λ (p : Place). IsNext piece (token.numeral n) (ending_bytes p)) e (leaf_next piece (token.numeral n) ds h (λ r. tt) (plain_stops piece (token.numeral n) refl refl (h, tt)))
+next_ending q (token.text n) p piece m h = let (ds, e) = leaf_place q p m in subst (λ (p : Place). IsNext piece (token.text n) (ending_bytes p)) e (leaf_next piece (token.text n) ds h (λ r. tt) (plain_stops piece (token.text n) refl refl (h, tt)))
+next_ending q (token.fault n) p piece m h = let (ds, e) = leaf_place q p m in subst (λ (p : Place). IsNext piece (token.fault n) (ending_bytes p)) e (leaf_next piece (token.fault n) ds h (λ r. tt) (plain_stops piece (token.fault n) refl refl (h, tt)))
 next_ending q (token.cell c) p piece m h =
-    let (ds, e) = leaf_place q (token.cell c) p refl m in
+    let (ds, e) = leaf_place q p m in
     let (j, k, runs) = run_cell piece c h in
     subst (λ (p : Place). IsNext piece (token.cell c) (ending_bytes p)) e
     (leaf_next piece (token.cell c) ds h (λ r. tt) (λ s also. ap (λ (s : Partial). partial_step s 41) (same (sym also ∙ runs)) ∙ word_stops j (Cell (Digits k)) 41 (other 41 refl)))
 next_ending q (token.range v) p piece m (first, last, a, b, x, f, l, y) =
-    let (ds, e) = leaf_place q (token.range v) p refl m in
+    let (ds, e) = leaf_place q p m in
     let (j, k, runs) = run_range piece first last a b x f l in
     subst (λ (p : Place). IsNext piece (token.range v) (ending_bytes p)) e
     (leaf_next piece (token.range v) ds (first, last, a, b, x, f, l, y) (λ r. tt) (λ s also. ap (λ (s : Partial). partial_step s 41) (same (sym also ∙ runs)) ∙ word_stops j (Range (Digits k)) 41 (other 41 refl)))
 next_ending q (token.name n) p piece m h =
-    let (ds, e) = name_place q n p m in
+    let (ds, e) = name_place q p m in
     let (j, a, some, runs) = run_name piece h.0 in
     subst (λ (p : Place). IsNext piece (token.name n) (ending_bytes p)) e
     (stopped piece (token.name n) (Word j a) 40 (41 ∷ close_bytes ds) (h, (41 ∷ close_bytes ds, refl)) runs (closed_word j a) (λ k f. ap token.name (h.1 ∙ sym f.0.1)))
 next_ending q (token.sign op) p piece m h =
-    let (ds, e) = sign_place q op p m in
+    let (ds, e) = sign_place q (sign_class op) p m in
     let (s, runs, ends) = plain_ends piece (token.sign op) (49 ∷ []) refl (h, tt) in
     subst (λ (p : Place). IsNext piece (token.sign op) (ending_bytes p)) e (sign_next piece op ds h s runs ends)
 next_ending q token.opening p piece m h = subst (λ (l : List ℕ). IsNext l token.opening (ending_bytes p)) (sym h) (opening_next (ending_bytes p))
@@ -412,185 +250,185 @@ skipped_inside (has ds) bs h = refl
 skipped_inside (named ds) bs h = refl
 skipped_inside (begins ds) bs h = refl
 
-abbrev Admitted : Place → List ℕ → Type 0
-Admitted p [] = Unit {0}
-Admitted p (b ∷ bs) = admits p b ≡ true
+-- the front of a token leads there
+abbrev Leads : Place → List ℕ → Place → Type 0
+Leads p [] q = p ≡ q
+Leads p (b ∷ bs) q = after_begun p b ≡ Some q
 
-admitted_more : (p : Place) (x y : List ℕ) → x ≢ [] → Admitted p x → Admitted p (x ++ y)
-admitted_more p [] y some h = absurd (some refl)
-admitted_more p (b ∷ x) y some h = h
+leads_more : (p q : Place) (x y : List ℕ) → x ≢ [] → Leads p x q → Leads p (x ++ y) q
+leads_more p q [] y some h = absurd (some refl)
+leads_more p q (b ∷ x) y some h = h
 
 -- What was read: tokens, and the front of the next one. What goes on with it is cut into those and its own tokens.
 record Before (p : Place) (s : Partial) (bs : List ℕ) : Type 0 where
   done : List ℕ
   part : List ℕ
   tokens : List TokenValue
+  place : Place
   split : bs ≡ done ++ part
-  place : advance_all (Some head) tokens ≡ Some p
+  read : advance_all (Some head) tokens ≡ Some place
   state : partial_after (Some Fresh) part ≡ Some s
-  first : Admitted p part
-  cut : (v : List ℕ) (us : List TokenValue) → CutAs (skipped p (part ++ v)) us → CutAs (done ++ (part ++ v)) (tokens ++ us)
+  first : Leads place part p
+  cut : (v : List ℕ) (us : List TokenValue) → CutAs (skipped place (part ++ v)) us → CutAs (done ++ (part ++ v)) (tokens ++ us)
 
 before_none : Before head Fresh []
-before_none = record { done = []; part = []; tokens = []; split = refl; place = refl; state = refl; first = tt; cut = (λ v us c. c) }
+before_none = record { done = []; part = []; tokens = []; place = head; split = refl; read = refl; state = refl; first = refl; cut = (λ v us c. c) }
 
 -- the part has one byte more
-part_more : (p : Place) (s next : Partial) (b : ℕ) (bs : List ℕ) (h : Before p s bs) → partial_after (Some s) (b ∷ []) ≡ Some next → Admitted p (h.part ++ b ∷ []) → Before p next (bs ++ b ∷ [])
-part_more p s next b bs h goes first = record {
+part_more : (p q : Place) (s next : Partial) (b : ℕ) (bs : List ℕ) (h : Before p s bs) → partial_after (Some s) (b ∷ []) ≡ Some next → Leads h.place (h.part ++ b ∷ []) q → Before q next (bs ++ b ∷ [])
+part_more p q s next b bs h goes first = record {
   done = h.done;
   part = h.part ++ b ∷ [];
   tokens = h.tokens;
-  split = (λ i. h.split i ++ b ∷ []) ∙ append_assoc h.done h.part (b ∷ []);
   place = h.place;
+  split = (λ i. h.split i ++ b ∷ []) ∙ append_assoc h.done h.part (b ∷ []);
+  read = h.read;
   state = run-append (Some Fresh) h.part (b ∷ []) ∙ (ap (λ (o : Option Partial). partial_after o (b ∷ [])) h.state ∙ goes);
   first = first;
   cut = (λ v us c.
       let one = append_assoc h.part (b ∷ []) v in
-      subst (λ (l : List ℕ). CutAs (h.done ++ l) (h.tokens ++ us)) (sym one) (h.cut (b ∷ v) us (subst (λ (l : List ℕ). CutAs (skipped p l) us) one c)));
+      subst (λ (l : List ℕ). CutAs (h.done ++ l) (h.tokens ++ us)) (sym one) (h.cut (b ∷ v) us (subst (λ (l : List ℕ). CutAs (skipped h.place l) us) one c)));
 }
 
--- a byte that begins a token in a place
-entered_parts : (p q : Place) (b : ℕ) (s : Partial) → read_first p b ≡ Some (q, s) → (p ≡ q) × (admits p b ≡ true) × (fresh_step b ≡ Some s)
-entered_parts p q b s m = on_test (admits p b) _ _ (q, s) m (λ k m. by_begun (fresh_step b) refl k m) (λ _ m. nothing m)
-  where
-    by_begun : (o : Option Partial) → fresh_step b ≡ o → admits p b ≡ true → with_token p o ≡ Some (q, s) → (p ≡ q) × (admits p b ≡ true) × (fresh_step b ≡ Some s)
-    by_begun None e k m = nothing m
-    by_begun (Some t) e k m = (ap (λ (r : Place × Partial). r.0) (same m), k, e ∙ ap (λ (r : Place × Partial). Some r.1) (same m))
-
--- a byte between tokens: a space, or a token's first
+-- a byte between tokens: a space, or a token's first, which leads behind that token
 abbrev IsBetween : Place → ℕ → Place → Partial → Type 0
-IsBetween p b q s = ((is_inside p ≡ true) × (b ≡ 32) × (p ≡ q) × (Fresh ≡ s)) ⊎ ((p ≡ q) × (admits p b ≡ true) × (fresh_step b ≡ Some s))
+IsBetween p b q s = ((is_inside p ≡ true) × (b ≡ 32) × (p ≡ q) × (Fresh ≡ s)) ⊎ ((after_begun p b ≡ Some q) × (fresh_step b ≡ Some s))
+
+entered_parts : (p q : Place) (b : ℕ) (s : Partial) → read_first p b ≡ Some (q, s) → IsBetween p b q s
+entered_parts p q b s m = inr (parts (after_begun p b) (fresh_step b) m)
+  where
+    parts : (o : Option Place) (u : Option Partial) → option_zip o u ≡ Some (q, s) → (o ≡ Some q) × (u ≡ Some s)
+    parts None u m = nothing m
+    parts (Some r) None m = nothing m
+    parts (Some r) (Some t) m = (ap (λ (r : Place × Partial). Some r.0) (same m), ap (λ (r : Place × Partial). Some r.1) (same m))
 
 between_parts : (p q : Place) (b : ℕ) (s : Partial) → read_between p b ≡ Some (q, s) → IsBetween p b q s
-between_parts head q b s m = inr (entered_parts head q b s m)
-between_parts (wants ds) q b s m = on_test (nat_eq b 32) _ _ (q, s) m (λ k m. inl (refl, same_number b 32 k, ap (λ (r : Place × Partial). r.0) (same m), ap (λ (r : Place × Partial). r.1) (same m))) (λ _ m. inr (entered_parts (wants ds) q b s m))
-between_parts (has ds) q b s m = on_test (nat_eq b 32) _ _ (q, s) m (λ k m. inl (refl, same_number b 32 k, ap (λ (r : Place × Partial). r.0) (same m), ap (λ (r : Place × Partial). r.1) (same m))) (λ _ m. inr (entered_parts (has ds) q b s m))
-between_parts (named ds) q b s m = on_test (nat_eq b 32) _ _ (q, s) m (λ k m. inl (refl, same_number b 32 k, ap (λ (r : Place × Partial). r.0) (same m), ap (λ (r : Place × Partial). r.1) (same m))) (λ _ m. inr (entered_parts (named ds) q b s m))
-between_parts (begins ds) q b s m = on_test (nat_eq b 32) _ _ (q, s) m (λ k m. inl (refl, same_number b 32 k, ap (λ (r : Place × Partial). r.0) (same m), ap (λ (r : Place × Partial). r.1) (same m))) (λ _ m. inr (entered_parts (begins ds) q b s m))
+between_parts p q b s m = on_test (is_inside p && nat_eq b 32) _ _ (q, s) m
+    (λ k m. let (within, space) = and_parts (is_inside p) (nat_eq b 32) k in
+    inl (within, same_number b 32 space, ap (λ (r : Place × Partial). r.0) (same m), ap (λ (r : Place × Partial). r.1) (same m)))
+    (λ _ m. entered_parts p q b s m)
 
 -- between tokens: what is cut may go on after spaces
 between_goes : (p q : Place) (b : ℕ) (s : Partial) (bs : List ℕ) → Before p Fresh bs → IsBetween p b q s → Before q s (bs ++ b ∷ [])
-between_goes p q b s bs h (inr (e, admit, begin)) =
-    subst (λ (q : Place). Before q s (bs ++ b ∷ [])) e
-    (part_more p Fresh s b bs h (ap (λ (o : Option Partial). partial_after o []) begin) (subst (λ (x : List ℕ). Admitted p (x ++ b ∷ [])) (sym (fresh_holds h.part Fresh h.state)) admit))
-between_goes p q b s bs h (inl (within, space, e, f)) =
-    let none : h.part ≡ [] = fresh_holds h.part Fresh h.state in
-    let here : Before p Fresh (bs ++ b ∷ []) = record {
-      done = h.done ++ 32 ∷ [];
-      part = [];
-      tokens = h.tokens;
-      split = (λ i. h.split i ++ space i ∷ []) ∙ ((λ i. (h.done ++ none i) ++ 32 ∷ []) ∙ ((λ i. append-nil h.done i ++ 32 ∷ []) ∙ sym (append-nil (h.done ++ 32 ∷ []))));
-      place = h.place;
-      state = refl;
-      first = tt;
-      cut = (λ v us c.
-          let c' : CutAs (past_spaces (32 ∷ v)) us = subst (λ (l : List ℕ). CutAs l us) (skipped_inside p v within) c in
-          let c'' : CutAs (skipped p (h.part ++ 32 ∷ v)) us = subst (λ (l : List ℕ). CutAs l us) (sym ((λ i. skipped p (none i ++ 32 ∷ v)) ∙ skipped_inside p (32 ∷ v) within)) c' in
-          subst (λ (l : List ℕ). CutAs l (h.tokens ++ us)) ((λ i. h.done ++ (none i ++ 32 ∷ v)) ∙ sym (append_assoc h.done (32 ∷ []) v)) (h.cut (32 ∷ v) us c''));
-    } in
-    subst (λ (q : Place). Before q s (bs ++ b ∷ [])) e (subst (λ (s : Partial). Before p s (bs ++ b ∷ [])) f here)
+between_goes p q b s bs h between' = by_byte between'
+  where
+    none : h.part ≡ []
+    none = fresh_holds h.part Fresh h.state
+
+    here : h.place ≡ p
+    here = subst (λ (x : List ℕ). Leads h.place x p) none h.first
+
+    by_byte : IsBetween p b q s → Before q s (bs ++ b ∷ [])
+    by_byte (inr (enter, begin)) =
+        part_more p q Fresh s b bs h (ap (λ (o : Option Partial). partial_after o []) begin)
+        (subst (λ (x : List ℕ). Leads h.place (x ++ b ∷ []) q) (sym none) (ap (λ (p : Place). after_begun p b) here ∙ enter))
+    by_byte (inl (within, space, e, f)) =
+        let within' : is_inside h.place ≡ true = ap is_inside here ∙ within in
+        let before : Before p Fresh (bs ++ b ∷ []) = record {
+          done = h.done ++ 32 ∷ [];
+          part = [];
+          tokens = h.tokens;
+          place = h.place;
+          split = (λ i. h.split i ++ space i ∷ []) ∙ ((λ i. (h.done ++ none i) ++ 32 ∷ []) ∙ ((λ i. append-nil h.done i ++ 32 ∷ []) ∙ sym (append-nil (h.done ++ 32 ∷ []))));
+          read = h.read;
+          state = refl;
+          first = here;
+          cut = (λ v us c.
+              let c' : CutAs (past_spaces (32 ∷ v)) us = subst (λ (l : List ℕ). CutAs l us) (skipped_inside h.place v within') c in
+              let c'' : CutAs (skipped h.place (h.part ++ 32 ∷ v)) us = subst (λ (l : List ℕ). CutAs l us) (sym ((λ i. skipped h.place (none i ++ 32 ∷ v)) ∙ skipped_inside h.place (32 ∷ v) within')) c' in
+              subst (λ (l : List ℕ). CutAs l (h.tokens ++ us)) ((λ i. h.done ++ (none i ++ 32 ∷ v)) ∙ sym (append_assoc h.done (32 ∷ []) v)) (h.cut (32 ∷ v) us c''));
+        } in
+        subst (λ (q : Place). Before q s (bs ++ b ∷ [])) e (subst (λ (s : Partial). Before p s (bs ++ b ∷ [])) f before)
 
 -- the token at hand ends before the byte
-ends_goes : (p q r : Place) (s last : Partial) (b : ℕ) (bs : List ℕ) (h : Before p s bs) (t : TokenValue) → ((w : List ℕ) → IsNext h.part t (b ∷ w)) → advance p t ≡ Some q →
+ends_goes : (p q r : Place) (s last : Partial) (b : ℕ) (bs : List ℕ) (h : Before p s bs) (t : TokenValue) → ((w : List ℕ) → IsNext h.part t (b ∷ w)) → advance h.place t ≡ Some q →
     IsBetween q b r last → Before r last (bs ++ b ∷ [])
 ends_goes p q r s last b bs h t next m between' = by_byte between'
   where
     placed : advance_all (Some head) (h.tokens ++ t ∷ []) ≡ Some q
-    placed = advance_all-append (Some head) h.tokens (t ∷ []) ∙ (ap (λ (o : Option Place). advance_all o (t ∷ [])) h.place ∙ ap (λ (o : Option Place). advance_all o []) m)
+    placed = advance_all-append (Some head) h.tokens (t ∷ []) ∙ (ap (λ (o : Option Place). advance_all o (t ∷ [])) h.read ∙ ap (λ (o : Option Place). advance_all o []) m)
 
     cut_on : (v : List ℕ) (us : List TokenValue) → CutAs (past_spaces (b ∷ v)) us → CutAs (h.done ++ (h.part ++ b ∷ v)) ((h.tokens ++ t ∷ []) ++ us)
     cut_on v us c =
         let one = cut_one h.part t (b ∷ v) us (next v) c in
-        let tight = skipped_tight p (h.part ++ b ∷ v) (cut_as_tight (h.part ++ b ∷ v) (t ∷ us) one) in
+        let tight = skipped_tight h.place (h.part ++ b ∷ v) (cut_as_tight (h.part ++ b ∷ v) (t ∷ us) one) in
         subst (λ (ts : List TokenValue). CutAs (h.done ++ (h.part ++ b ∷ v)) ts) (sym (append_assoc h.tokens (t ∷ []) us))
         (h.cut (b ∷ v) (t ∷ us) (subst (λ (l : List ℕ). CutAs l (t ∷ us)) (sym tight) one))
 
     by_byte : IsBetween q b r last → Before r last (bs ++ b ∷ [])
-    by_byte (inr (e, admit, begin)) =
+    by_byte (inr (enter, begin)) =
         let space = no_space b last begin in
-        let here : Before q last (bs ++ b ∷ []) = record {
+        record {
           done = h.done ++ h.part;
           part = b ∷ [];
           tokens = h.tokens ++ t ∷ [];
+          place = q;
           split = (λ i. h.split i ++ b ∷ []);
-          place = placed;
+          read = placed;
           state = ap (λ (o : Option Partial). partial_after o []) begin;
-          first = admit;
+          first = enter;
           cut = (λ v us c.
               let tight : past_spaces (b ∷ v) ≡ b ∷ v = ap (λ (k : Bool). cond k (past_spaces v) (b ∷ v)) space in
               let c' = subst (λ (l : List ℕ). CutAs l us) (skipped_tight q (b ∷ v) tight ∙ sym tight) c in
               subst (λ (l : List ℕ). CutAs l ((h.tokens ++ t ∷ []) ++ us)) (sym (append_assoc h.done h.part (b ∷ v))) (cut_on v us c'));
-        } in
-        subst (λ (r : Place). Before r last (bs ++ b ∷ [])) e here
+        }
     by_byte (inl (within, space, e, f)) =
-        let here : Before q Fresh (bs ++ b ∷ []) = record {
+        let before : Before q Fresh (bs ++ b ∷ []) = record {
           done = (h.done ++ h.part) ++ b ∷ [];
           part = [];
           tokens = h.tokens ++ t ∷ [];
+          place = q;
           split = (λ i. h.split i ++ b ∷ []) ∙ sym (append-nil ((h.done ++ h.part) ++ b ∷ []));
-          place = placed;
+          read = placed;
           state = refl;
-          first = tt;
+          first = refl;
           cut = (λ v us c.
               let past : past_spaces (b ∷ v) ≡ past_spaces v = ap (λ (c : ℕ). past_spaces (c ∷ v)) space in
               let c' = subst (λ (l : List ℕ). CutAs l us) (skipped_inside q v within ∙ sym past) c in
               subst (λ (l : List ℕ). CutAs l ((h.tokens ++ t ∷ []) ++ us)) (regroup h.done h.part (b ∷ v) v) (cut_on v us c'));
         } in
-        subst (λ (r : Place). Before r last (bs ++ b ∷ [])) e (subst (λ (s : Partial). Before q s (bs ++ b ∷ [])) f here)
+        subst (λ (r : Place). Before r last (bs ++ b ∷ [])) e (subst (λ (s : Partial). Before q s (bs ++ b ∷ [])) f before)
       where
         regroup : (d x y v : List ℕ) → d ++ (x ++ (b ∷ v)) ≡ ((d ++ x) ++ b ∷ []) ++ v
         regroup d x y v = simp append_assoc
 
 fresh_is : (s : Partial) → is_fresh s ≡ true → s ≡ Fresh
 fresh_is Fresh h = refl
-fresh_is (Numeral v) h = absurd (cc)
-fresh_is Quoted h = absurd (cc)
-fresh_is Closed h = absurd (cc)
-fresh_is Hash h = absurd (cc)
-fresh_is HashN h = absurd (cc)
-fresh_is (Error e n) h = absurd (cc)
-fresh_is (Word n a) h = absurd (cc)
-fresh_is Less h = absurd (cc)
-fresh_is Greater h = absurd (cc)
-fresh_is (Whole k) h = absurd (cc)
+fresh_is s h = absurd (cc)
+
+-- some byte of the token at hand was read
+some_part : (p : Place) (s : Partial) (bs : List ℕ) (h : Before p s bs) → is_fresh s ≡ false → h.part ≢ []
+some_part p s bs h k e = absurd (let wrong : true ≡ false = ap is_fresh (same (ap (partial_after (Some Fresh)) (sym e) ∙ h.state)) ∙ k in cc)
 
 -- the token that the part is where the byte comes next
-part_ends : (p q r : Place) (s last : Partial) (b : ℕ) (bs : List ℕ) (h : Before p s bs) (k : TokenKind) → h.part ≢ [] → partial_step s b ≡ None → kind_at s (Some b) ≡ Some k → after_kind p k ≡ Some q →
-    IsBetween q b r last → Before r last (bs ++ b ∷ [])
-part_ends p q r s last b bs h k some stops ends after between' = by_part h.part refl h.first
+part_ends : (p r : Place) (s last : Partial) (b : ℕ) (bs : List ℕ) (h : Before p s bs) (k : TokenKind) → h.part ≢ [] → partial_step s b ≡ None → kind_at s (Some b) ≡ Some k →
+    IsBetween (behind_token k p) b r last → Before r last (bs ++ b ∷ [])
+part_ends p r s last b bs h k some stops ends between' = by_part h.part refl h.first
   where
-    by_part : (x : List ℕ) → h.part ≡ x → Admitted p x → Before r last (bs ++ b ∷ [])
+    by_part : (x : List ℕ) → h.part ≡ x → Leads h.place x p → Before r last (bs ++ b ∷ [])
     by_part [] e first = absurd (some e)
     by_part (c ∷ x) e first =
         let (t, fits, is) = sound s h.part (b ∷ []) k (fresh_holds h.part s h.state) ends in
-        let (q', m) = advance_some p t c (starts t c x (subst (λ (l : List ℕ). Spells l t) e fits.0)) first in
-        let places : q' ≡ q = same (sym (advance_kind p t q' m) ∙ (ap (after_kind p) is ∙ after)) in
+        let m = leads_on h.place p t c (starts t c x (subst (λ (l : List ℕ). Spells l t) e fits.0)) first in
         let next : (w : List ℕ) → IsNext h.part t (b ∷ w) = λ w.
         let fits' = fits_too h.part t (b ∷ []) [] w (λ e. absurd (cc)) fits in
         stopped h.part t s b w fits' h.state stops (name_only h.part t (b ∷ w) k fits' is (s, h.state, ends)) in
-        ends_goes p q r s last b bs h t next (m ∙ ap Some places) between'
+        ends_goes p (behind_token k p) r s last b bs h t next (m ∙ ap (λ (k : TokenKind). Some (behind_token k p)) is) between'
 
 byte_goes : (p q : Place) (s last : Partial) (b : ℕ) (bs : List ℕ) → Before p s bs → read_byte p s b ≡ Some (q, last) → Before q last (bs ++ b ∷ [])
 byte_goes p q s last b bs h m = on_test (is_fresh s) _ _ (q, last) m
     (λ k m. between_goes p q b last bs (subst (λ (s : Partial). Before p s bs) (fresh_is s k) h) (between_parts p q b last m))
-    (λ k m. by_step (some k) (partial_step s b) refl m)
+    (λ k m. by_step (some_part p s bs h k) (partial_step s b) refl m)
   where
-    some : is_fresh s ≡ false → h.part ≢ []
-    some k e = absurd (let wrong : true ≡ false = ap is_fresh (same (ap (partial_after (Some Fresh)) (sym e) ∙ h.state)) ∙ k in cc)
-
-    by_place : h.part ≢ [] → partial_step s b ≡ None → (k : TokenKind) → kind_at s (Some b) ≡ Some k → (o : Option Place) → after_kind p k ≡ o → read_between_at o b ≡ Some (q, last) → Before q last (bs ++ b ∷ [])
-    by_place some stops k ends None after m = nothing m
-    by_place some stops k ends (Some r) after m = part_ends p r q s last b bs h k some stops ends after (between_parts r q b last m)
-
     by_kind : h.part ≢ [] → partial_step s b ≡ None → (o : Option TokenKind) → kind_at s (Some b) ≡ o → read_between_at (place_after p o) b ≡ Some (q, last) → Before q last (bs ++ b ∷ [])
     by_kind some stops None ends m = nothing m
-    by_kind some stops (Some k) ends m = by_place some stops k ends (after_kind p k) refl m
+    by_kind some stops (Some k) ends m = part_ends p q s last b bs h k some stops ends (between_parts (behind_token k p) q b last m)
 
     by_step : h.part ≢ [] → (o : Option Partial) → partial_step s b ≡ o → inside p s b o ≡ Some (q, last) → Before q last (bs ++ b ∷ [])
     by_step some None stops m = by_kind some stops (kind_at s (Some b)) refl m
     by_step some (Some next) goes m =
         subst (λ (r : Place × Partial). Before r.0 r.1 (bs ++ b ∷ [])) (same m)
-        (part_more p s next b bs h (ap (λ (o : Option Partial). partial_after o []) goes) (admitted_more p h.part (b ∷ []) some h.first))
+        (part_more p p s next b bs h (ap (λ (o : Option Partial). partial_after o []) goes) (leads_more h.place p h.part (b ∷ []) some h.first))
 
 text_goes : (p q : Place) (s last : Partial) (bs more : List ℕ) → Before p s bs → read_text (Some (p, s)) more ≡ Some (q, last) → Before q last (bs ++ more)
 text_goes p q s last bs [] h m = subst (λ (r : Place × Partial). Before r.0 r.1 (bs ++ [])) (same m) (subst (λ (l : List ℕ). Before p s l) (sym (append-nil bs)) h)
@@ -618,54 +456,52 @@ before_front p s bs h = by_part h.part refl h.first
     goes_on : (v : List ℕ) → bs ++ v ≡ h.done ++ (h.part ++ v)
     goes_on v = (λ i. h.split i ++ v) ∙ append_assoc h.done h.part v
 
-    by_part : (x : List ℕ) → h.part ≡ x → Admitted p x → IsFront bs
+    by_part : (x : List ℕ) → h.part ≡ x → Leads h.place x p → IsFront bs
     by_part [] e first =
-        let v = ending_bytes p in
-        let us = ending_tokens p in
-        let here : CutAs (skipped p v) us = subst (λ (l : List ℕ). CutAs l us) (sym (skipped_tight p v (cut_as_tight v us (ending_cut p)))) (ending_cut p) in
-        let cuts = h.cut v us (subst (λ (x : List ℕ). CutAs (skipped p (x ++ v)) us) (sym e) here) in
-        finish bs v h.tokens us p (subst (λ (l : List ℕ). CutAs l (h.tokens ++ us)) (sym (goes_on v)) cuts) h.place (ending_read p)
+        let v = ending_bytes h.place in
+        let us = ending_tokens h.place in
+        let here : CutAs (skipped h.place v) us = subst (λ (l : List ℕ). CutAs l us) (sym (skipped_tight h.place v (cut_as_tight v us (ending_cut h.place)))) (ending_cut h.place) in
+        let cuts = h.cut v us (subst (λ (x : List ℕ). CutAs (skipped h.place (x ++ v)) us) (sym e) here) in
+        finish bs v h.tokens us h.place (subst (λ (l : List ℕ). CutAs l (h.tokens ++ us)) (sym (goes_on v)) cuts) h.read (ending_read h.place)
     by_part (b ∷ x) e first =
         let (y, t, spells) = completes s h.part (fresh_holds h.part s h.state) in
-        let (q, m) = advance_some p t b (starts t b (x ++ y) (subst (λ (l : List ℕ). Spells (l ++ y) t) e spells)) first in
+        let q = behind_token (token_kind t) p in
+        let m = leads_on h.place p t b (starts t b (x ++ y) (subst (λ (l : List ℕ). Spells (l ++ y) t) e spells)) first in
         let v = y ++ ending_bytes q in
         let us = t ∷ ending_tokens q in
         let one : CutAs (h.part ++ v) us = subst (λ (l : List ℕ). CutAs l us) (append_assoc h.part y (ending_bytes q))
-        (cut_more (h.part ++ y) t (ending_bytes q) (ending_tokens q) (next_ending p t q (h.part ++ y) m spells) (ending_cut q)) in
-        let here : CutAs (skipped p (h.part ++ v)) us = subst (λ (l : List ℕ). CutAs l us) (sym (skipped_tight p (h.part ++ v) (cut_as_tight (h.part ++ v) us one))) one in
-        finish bs v h.tokens us p (subst (λ (l : List ℕ). CutAs l (h.tokens ++ us)) (sym (goes_on v)) (h.cut v us here)) h.place
+        (cut_more (h.part ++ y) t (ending_bytes q) (ending_tokens q) (next_ending h.place t q (h.part ++ y) m spells) (ending_cut q)) in
+        let here : CutAs (skipped h.place (h.part ++ v)) us = subst (λ (l : List ℕ). CutAs l us) (sym (skipped_tight h.place (h.part ++ v) (cut_as_tight (h.part ++ v) us one))) one in
+        finish bs v h.tokens us h.place (subst (λ (l : List ℕ). CutAs l (h.tokens ++ us)) (sym (goes_on v)) (h.cut v us here)) h.read
         (ap (λ (o : Option Place). advance_all o (ending_tokens q)) m ∙ ending_read q)
 
 -- a text that ends where a formula may end
 before_formula : (p : Place) (s : Partial) (bs : List ℕ) → Before p s bs → place_at_end p s ≡ Some (has []) → IsFormulaText bs
-before_formula p s bs h e = on_test (is_fresh s) _ _ (has []) e between_tokens (λ k e. by_kind (some k) (kind_at s None) refl e)
+before_formula p s bs h e = on_test (is_fresh s) _ _ (has []) e between_tokens (λ k e. by_kind (some_part p s bs h k) (kind_at s None) refl e)
   where
     -- where these tokens are what is left
-    ends_with : (us : List TokenValue) → CutAs (h.part ++ []) us → advance_all (Some p) us ≡ Some (has []) → IsFormulaText bs
+    ends_with : (us : List TokenValue) → CutAs (h.part ++ []) us → advance_all (Some h.place) us ≡ Some (has []) → IsFormulaText bs
     ends_with us c read =
-        let here : CutAs (skipped p (h.part ++ [])) us = subst (λ (l : List ℕ). CutAs l us) (sym (skipped_tight p (h.part ++ []) (cut_as_tight (h.part ++ []) us c))) c in
+        let here : CutAs (skipped h.place (h.part ++ [])) us = subst (λ (l : List ℕ). CutAs l us) (sym (skipped_tight h.place (h.part ++ []) (cut_as_tight (h.part ++ []) us c))) c in
         let whole : h.done ++ (h.part ++ []) ≡ bs = (λ i. h.done ++ append-nil h.part i) ∙ sym h.split in
-        cut_formula bs h.tokens us p (subst (λ (l : List ℕ). CutAs l (h.tokens ++ us)) whole (h.cut [] us here)) h.place read
+        cut_formula bs h.tokens us h.place (subst (λ (l : List ℕ). CutAs l (h.tokens ++ us)) whole (h.cut [] us here)) h.read read
 
     between_tokens : is_fresh s ≡ true → Some p ≡ Some (has []) → IsFormulaText bs
     between_tokens k e =
         let none : h.part ≡ [] = fresh_holds h.part Fresh (h.state ∙ ap Some (fresh_is s k)) in
-        ends_with [] (subst (λ (l : List ℕ). CutAs (l ++ []) []) (sym none) cut_none) e
+        ends_with [] (subst (λ (l : List ℕ). CutAs (l ++ []) []) (sym none) cut_none) (ap Some (subst (λ (x : List ℕ). Leads h.place x p) none h.first) ∙ e)
 
-    some : is_fresh s ≡ false → h.part ≢ []
-    some k e = absurd (let wrong : true ≡ false = ap is_fresh (same (ap (partial_after (Some Fresh)) (sym e) ∙ h.state)) ∙ k in cc)
-
-    by_part : h.part ≢ [] → (k : TokenKind) → kind_at s None ≡ Some k → after_kind p k ≡ Some (has []) → (x : List ℕ) → h.part ≡ x → Admitted p x → IsFormulaText bs
-    by_part some k ends after [] e first = absurd (some e)
-    by_part some k ends after (c ∷ x) e first =
+    by_part : h.part ≢ [] → (k : TokenKind) → kind_at s None ≡ Some k → Some (behind_token k p) ≡ Some (has []) → (x : List ℕ) → h.part ≡ x → Leads h.place x p → IsFormulaText bs
+    by_part some k ends after' [] e first = absurd (some e)
+    by_part some k ends after' (c ∷ x) e first =
         let (t, fits, is) = sound s h.part [] k (fresh_holds h.part s h.state) ends in
-        let (q, m) = advance_some p t c (starts t c x (subst (λ (l : List ℕ). Spells l t) e fits.0)) first in
-        let places : q ≡ has [] = same (sym (advance_kind p t q m) ∙ (ap (after_kind p) is ∙ after)) in
-        ends_with (t ∷ []) (cut_more h.part t [] [] (last_token h.part t fits) cut_none) (ap (λ (o : Option Place). advance_all o []) m ∙ ap Some places)
+        let m = leads_on h.place p t c (starts t c x (subst (λ (l : List ℕ). Spells l t) e fits.0)) first in
+        ends_with (t ∷ []) (cut_more h.part t [] [] (last_token h.part t fits) cut_none)
+        (ap (λ (o : Option Place). advance_all o []) (m ∙ (ap (λ (k : TokenKind). Some (behind_token k p)) is ∙ after')))
 
     by_kind : h.part ≢ [] → (o : Option TokenKind) → kind_at s None ≡ o → place_after p o ≡ Some (has []) → IsFormulaText bs
-    by_kind some None ends after = nothing after
-    by_kind some (Some k) ends after = by_part some k ends after h.part refl h.first
+    by_kind some None ends after' = nothing after'
+    by_kind some (Some k) ends after' = by_part some k ends after' h.part refl h.first
 
 -- where the reader stands somewhere, some formula begins so
 pub alive_front : (bs : List ℕ) → read_text (Some (head, Fresh)) bs ≢ None → IsFront bs

@@ -29,15 +29,7 @@ lexed_proper (cut.next {piece = piece} {behind = behind} {t = t} n more) = (prop
   where
     proper : (piece : List ℕ) (t : TokenValue) (behind : List ℕ) → IsNext piece t behind → IsProper t
     proper p (token.name n) r next = let (f, is, e) = name_is_function p next.fits.0.0 in (f, is, e ∙ sym next.fits.0.1)
-    proper p (token.numeral _) r next = tt
-    proper p (token.text _) r next = tt
-    proper p (token.fault _) r next = tt
-    proper p (token.cell _) r next = tt
-    proper p (token.range _) r next = tt
-    proper p (token.sign _) r next = tt
-    proper p token.opening r next = tt
-    proper p token.closing r next = tt
-    proper p token.semicolon r next = tt
+    proper p t r next = tt
 
 -- a formula's text by its tokens
 pub tokens_read : (bs : List ℕ) → IsFormulaText bs → IsReadToEnd bs

@@ -4,8 +4,8 @@ use Rattle.std.specs.Prelude.{reverse}
 use Rattle.std.proofs.lemmas.Bool.{lt-ltb}
 use Rattle.std.proofs.lemmas.List.{reverse-append, reverse-reverse}
 use Rattle.formula_tree.specs.Precedence.{precedence_of_operator}
-use Rattle.formula_tree.specs.declared.operators.BinOp.TheVariants.{Pow, Mul, Div, Add, Sub, Join, Eq, Ne, Lt, Le, Gt, Ge}
-use Rattle.formula_tree.specs.Tokens.{TokenValue, numeral, text, fault, cell, range, name, sign, opening, closing, semicolon}
+use Rattle.formula_tree.specs.declared.operators.BinOp.TheVariants.{Add, Sub}
+use Rattle.formula_tree.specs.Tokens.{TokenValue, sign, opening, closing, semicolon}
 use Rattle.formula_read.specs.declared.tree_err.TreeErr.{TreeErr}
 use Rattle.formula_read.specs.declared.tree_err.TreeErr.TheVariants.{Outside, Deep, Memory}
 use Rattle.formula_read.specs.declared.stack.Frame.{Frame}
@@ -54,68 +54,35 @@ closed_deeper (x, f ∷ fs) = let here = joined_deeper f x in omega arith
 
 parted_deeper : (s : Nested × List Frame) → Deepens (pair_nesting s) (parted s)
 parted_deeper (x, []) = tt
-parted_deeper (x, Sign op ∷ fs) = tt
-parted_deeper (x, Left y op ∷ fs) = tt
-parted_deeper (x, Group ∷ fs) = tt
 parted_deeper (x, Call fun args ∷ fs) = omega arith
+parted_deeper (x, f ∷ fs) = tt
 
 ended_call_deeper : (fs : List Frame) → Deepens (frames_nesting fs) (ended_call fs)
 ended_call_deeper [] = tt
-ended_call_deeper (Sign op ∷ fs) = tt
-ended_call_deeper (Left y op ∷ fs) = tt
-ended_call_deeper (Group ∷ fs) = tt
 ended_call_deeper (Call fun args ∷ fs) = omega arith
+ended_call_deeper (f ∷ fs) = tt
 
 deepens_more : (m n : ℕ) (o : Option State) → m ≤ n → Deepens n o → Deepens m o
 deepens_more m n None h d = tt
 deepens_more m n (Some s) h d = omega arith
 
 begun_deeper : (fs : List Frame) (t : TokenValue) → Deepens (frames_nesting fs) (begun fs t)
-begun_deeper fs (numeral n) = omega arith
-begun_deeper fs (text t) = omega arith
-begun_deeper fs (fault e) = omega arith
-begun_deeper fs (cell c) = omega arith
-begun_deeper fs (range r) = omega arith
-begun_deeper fs (name n) = omega arith
 begun_deeper fs (sign Add) = omega arith
 begun_deeper fs (sign Sub) = omega arith
-begun_deeper fs (sign Pow) = tt
-begun_deeper fs (sign Mul) = tt
-begun_deeper fs (sign Div) = tt
-begun_deeper fs (sign Join) = tt
-begun_deeper fs (sign Eq) = tt
-begun_deeper fs (sign Ne) = tt
-begun_deeper fs (sign Lt) = tt
-begun_deeper fs (sign Le) = tt
-begun_deeper fs (sign Gt) = tt
-begun_deeper fs (sign Ge) = tt
-begun_deeper fs opening = omega arith
+begun_deeper fs (sign op) = tt
 begun_deeper fs closing = ended_call_deeper fs
 begun_deeper fs semicolon = tt
+begun_deeper fs t = omega arith
 
 opened_deeper : (fs : List Frame) (t : TokenValue) → Deepens (frames_nesting fs) (call_opened fs t)
 opened_deeper fs opening = omega arith
-opened_deeper fs (numeral _) = tt
-opened_deeper fs (text _) = tt
-opened_deeper fs (fault _) = tt
-opened_deeper fs (cell _) = tt
-opened_deeper fs (range _) = tt
-opened_deeper fs (name _) = tt
-opened_deeper fs (sign _) = tt
-opened_deeper fs closing = tt
-opened_deeper fs semicolon = tt
+opened_deeper fs t = tt
 
 ended_deeper : (x : Nested) (fs : List Frame) (t : TokenValue) → Deepens (pair_nesting (x, fs)) (ended x fs t)
 ended_deeper x fs (sign op) = let more = settled_deeper (precedence_of_operator op) x fs in omega arith
 ended_deeper x fs closing = deepens_more _ _ _ (settled_deeper 1 x fs) (closed_deeper (reduced 1 x fs))
 ended_deeper x fs semicolon = deepens_more _ _ _ (settled_deeper 1 x fs) (parted_deeper (reduced 1 x fs))
-ended_deeper x fs (numeral _) = tt
-ended_deeper x fs (text _) = tt
-ended_deeper x fs (fault _) = tt
-ended_deeper x fs (cell _) = tt
-ended_deeper x fs (range _) = tt
-ended_deeper x fs (name _) = tt
-ended_deeper x fs opening = tt
+ended_deeper x fs t = tt
 
 stepped_deeper : (p : Side) (fs : List Frame) (t : TokenValue) → Deepens (max (side_nesting p) (frames_nesting fs)) (stepped p fs t)
 stepped_deeper Head fs t = omega arith

@@ -73,16 +73,8 @@ pub no_empty_token : (t : TokenValue) (r : List ℕ) → Fits [] t r → ⊥
 no_empty_token t r h = let (k, (s, runs, ends)) = complete [] t r h in absurd (let clash : None ≡ Some k = ap (λ (s : Partial). kind_at s (first_byte r)) (same runs) ∙ ends in cc)
 
 pub name_by_kind : (t : TokenValue) (p n : List ℕ) → token_kind t ≡ kind.Name → Spells p t → n ≡ upper_case p → t ≡ token.name n
-name_by_kind (token.numeral _) p n k h e = absurd (cc)
-name_by_kind (token.text _) p n k h e = absurd (cc)
-name_by_kind (token.fault _) p n k h e = absurd (cc)
-name_by_kind (token.cell _) p n k h e = absurd (cc)
-name_by_kind (token.range _) p n k h e = absurd (cc)
 name_by_kind (token.name m) p n k h e = ap token.name (h.1 ∙ sym e)
-name_by_kind (token.sign _) p n k h e = absurd (cc)
-name_by_kind token.opening p n k h e = absurd (cc)
-name_by_kind token.closing p n k h e = absurd (cc)
-name_by_kind token.semicolon p n k h e = absurd (cc)
+name_by_kind t p n k h e = absurd (cc)
 
 pub one_end : (p r : List ℕ) (j k : TokenKind) → Ends p r j → Ends p r k → j ≡ k
 one_end p r j k (s, runs, ends) (t, also, end) = same (sym ends ∙ (ap (λ (s : Partial). kind_at s (first_byte r)) (same (sym runs ∙ also)) ∙ end))

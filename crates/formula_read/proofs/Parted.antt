@@ -9,10 +9,10 @@ use Rattle.formula_tree.specs.Tokens as token
 use Rattle.formula_read.specs.declared.kinds.TokenKind.{TokenKind}
 use Rattle.formula_read.specs.declared.kinds.TokenKind.TheVariants as kind
 use Rattle.formula_read.specs.declared.partial.Partial.{Partial}
-use Rattle.formula_read.specs.declared.partial.Partial.TheVariants.{Fresh, Numeral, Quoted, Closed, Hash, HashN, Error, Word, Less, Greater, Whole}
+use Rattle.formula_read.specs.declared.partial.Partial.TheVariants.{Fresh, Numeral, Closed, Error, Word, Less, Greater, Whole}
 use Rattle.formula_read.specs.declared.partial.Address.{Address}
-use Rattle.formula_read.specs.declared.partial.Address.TheVariants.{Neither, Cell, Range}
-use Rattle.formula_read.specs.declared.partial.Corner.TheVariants.{Start, Dollar, Letters, Fixed, Digits}
+use Rattle.formula_read.specs.declared.partial.Address.TheVariants.{Cell, Range}
+use Rattle.formula_read.specs.declared.partial.Corner.TheVariants.{Digits}
 use Rattle.formula_read.specs.Partial.{partial_step, kind_at, is_open, address_kind}
 use Rattle.formula_read.specs.Longest.{partial_after, first_byte}
 use Rattle.formula_read.specs.Read.{token_kind}
@@ -21,6 +21,7 @@ use Rattle.formula_read.proofs.Choices.{on_test, nothing, same, same_number}
 use Rattle.formula_read.proofs.Forms.{Ends, complete, plain_ends, name_ends, run-append}
 use Rattle.formula_read.proofs.Words.{run_cell, run_range}
 use Rattle.formula_read.proofs.Splits.{shorter_front, some_left}
+use Rattle.formula_read.proofs.Cuts.{closed_word}
 use Rattle.formula_read.proofs.Next.{one_end, name_by_kind}
 
 -- neither of two tests
@@ -38,20 +39,7 @@ not_below m n h = grind (arith, nat_tests)
 no_digit : (b : ℕ) → is_name_byte b ≡ false → is_ascii_digit b ≡ false
 no_digit b h = grind (arith, nat_tests)
 
--- a word ends before a bracket, and an address before a byte that it can't go on with
-open_ends : (n : ℕ) (a : Address) → partial_step (Word n a) 40 ≡ None
-open_ends n Neither = refl
-open_ends n (Cell Start) = refl
-open_ends n (Cell Dollar) = refl
-open_ends n (Cell (Letters m)) = refl
-open_ends n (Cell Fixed) = refl
-open_ends n (Cell (Digits m)) = refl
-open_ends n (Range Start) = refl
-open_ends n (Range Dollar) = refl
-open_ends n (Range (Letters m)) = refl
-open_ends n (Range Fixed) = refl
-open_ends n (Range (Digits m)) = refl
-
+-- an address ends before a byte that it can't go on with
 cell_ends : (n m b : ℕ) → may_join kind.Cell b ≡ false → partial_step (Word n (Cell (Digits m))) b ≡ None
 cell_ends n m b h =
     let (byte, rest) = neither (is_name_byte b) (nat_eq b 58 || nat_eq b 40) h in
@@ -66,38 +54,27 @@ range_ends n m b h =
     rw (byte, digit)
 
 address_ends : (n : ℕ) (a : Address) (k : TokenKind) (b : ℕ) → address_kind a ≡ Some k → may_join k b ≡ false → partial_step (Word n a) b ≡ None
-address_ends n Neither k b e h = nothing e
-address_ends n (Cell Start) k b e h = nothing e
-address_ends n (Cell Dollar) k b e h = nothing e
-address_ends n (Cell (Letters m)) k b e h = nothing e
-address_ends n (Cell Fixed) k b e h = nothing e
 address_ends n (Cell (Digits m)) k b e h = cell_ends n m b (subst (λ (k : TokenKind). may_join k b ≡ false) (sym (same e)) h)
-address_ends n (Range Start) k b e h = nothing e
-address_ends n (Range Dollar) k b e h = nothing e
-address_ends n (Range (Letters m)) k b e h = nothing e
-address_ends n (Range Fixed) k b e h = nothing e
 address_ends n (Range (Digits m)) k b e h = range_ends n m b (subst (λ (k : TokenKind). may_join k b ≡ false) (sym (same e)) h)
+address_ends n a k b e h = nothing e
 
 -- a token's end, before a byte that it can't go on with, is where the reader stops
 stops_before : (s : Partial) (k : TokenKind) (b : ℕ) → kind_at s (Some b) ≡ Some k → may_join k b ≡ false → partial_step s b ≡ None
-stops_before Fresh k b e h = nothing e
 stops_before (Numeral v) k b e h = let other : is_ascii_digit b ≡ false = subst (λ (k : TokenKind). may_join k b ≡ false) (sym (same e)) h in rw other
-stops_before Quoted k b e h = nothing e
 stops_before Closed k b e h = let other : nat_eq b 34 ≡ false = subst (λ (k : TokenKind). may_join k b ≡ false) (sym (same e)) h in rw other
-stops_before Hash k b e h = nothing e
-stops_before HashN k b e h = nothing e
 stops_before (Error f n) k b e h = on_test (nat_eq n (length (error_name f))) _ _ k e
     (λ t _. let past = not_below n (length (error_name f)) t in rw past)
     (λ _ m. nothing m)
 stops_before (Word n a) k b e h = on_test (nat_lt 0 n && nat_eq b 40) _ _ k e
     (λ t _. let (_, open') = and_parts (nat_lt 0 n) (nat_eq b 40) t in
-    subst (λ (b : ℕ). partial_step (Word n a) b ≡ None) (sym (same_number b 40 open')) (open_ends n a))
+    subst (λ (b : ℕ). partial_step (Word n a) b ≡ None) (sym (same_number b 40 open')) (closed_word n a))
     (λ _ m. address_ends n a k b m h)
 stops_before Less k b e h = let other : (nat_eq b 61 || nat_eq b 62) ≡ false = subst (λ (k : TokenKind). may_join k b ≡ false) (sym (same e)) h in rw other
 stops_before Greater k b e h =
     let (other, _) = neither (nat_eq b 61) (nat_eq b 62) (subst (λ (k : TokenKind). may_join k b ≡ false) (sym (same e)) h) in
     rw other
 stops_before (Whole j) k b e h = refl
+stops_before s k b e h = nothing e
 
 -- no token goes on with the bytes
 abbrev Stops : Partial → List ℕ → Type 0
@@ -147,13 +124,7 @@ token_ends p (token.range s) r h other =
     let (n, m, runs) = run_range p first last a b e f l in
     (Word n (Range (Digits m)), runs, word_ends n (Range (Digits m)) kind.Range (first_byte r) refl (not_open r other))
 token_ends p (token.name n) r h other = name_ends p n r h
-token_ends p (token.numeral n) r h other = plain_ends p (token.numeral n) r refl h
-token_ends p (token.text n) r h other = plain_ends p (token.text n) r refl h
-token_ends p (token.fault n) r h other = plain_ends p (token.fault n) r refl h
-token_ends p (token.sign n) r h other = plain_ends p (token.sign n) r refl h
-token_ends p token.opening r h other = plain_ends p token.opening r refl h
-token_ends p token.closing r h other = plain_ends p token.closing r refl h
-token_ends p token.semicolon r h other = plain_ends p token.semicolon r refl h
+token_ends p t r h other = plain_ends p t r refl h
 
 pub parted_next : (p : List ℕ) (t : TokenValue) (r : List ℕ) → Fits p t r → goes_on (token_kind t) r ≡ false → IsNext p t r
 parted_next p t r h other =

@@ -1,8 +1,8 @@
 -- Every text reads as something.
-use Rattle.std.proofs.Common.{◌≡◌, ℕ, zero, suc, ◌+◌, ◌≤◌, List, [], ◌∷◌, length, get_or, Option, Some, None, refl, arith}
+use Rattle.std.proofs.Common.{◌≡◌, ℕ, zero, suc, ◌+◌, ◌≤◌, List, [], length, get_or, Option, Some, None, refl, arith}
 use Rattle.formula_read.specs.declared.partial.Partial.{Partial}
 use Rattle.formula_read.specs.declared.partial.Partial.TheVariants.{Fresh}
-use Rattle.formula_read.specs.Places.{Place, head, wants, has, named, begins}
+use Rattle.formula_read.specs.Places.{Place, head, has}
 use Rattle.formula_read.specs.Reading.{place_at_end, read_byte}
 use Rattle.formula_read.specs.Readings.{Reading, formula, stops, IsReading, IsLongestFormulaFront}
 use Rattle.formula_read.proofs.Spellings.{one_formula}
@@ -11,12 +11,7 @@ use Rattle.formula_read.proofs.Stops.{Reaches, reaches_first, reaches_more, stop
 -- where the reader stands at the end
 ended_so : (text : List ℕ) (at : ℕ) (p : Place) (s : Partial) → Reaches text at p s → length text ≤ at → (o : Option Place) → place_at_end p s ≡ o → (r : Reading) × IsReading text r
 ended_so text at p s h past (Some (has [])) e = let (t, n, stands) = end_formula text at p s h past e in (formula t n, stands)
-ended_so text at p s h past (Some (has (d ∷ ds))) e = (stops (length text), (end_outside text at p s h past (λ f. cc), end_place text at p s h past))
-ended_so text at p s h past (Some head) e = (stops (length text), (end_outside text at p s h past (λ f. cc), end_place text at p s h past))
-ended_so text at p s h past (Some (wants ds)) e = (stops (length text), (end_outside text at p s h past (λ f. cc), end_place text at p s h past))
-ended_so text at p s h past (Some (named ds)) e = (stops (length text), (end_outside text at p s h past (λ f. cc), end_place text at p s h past))
-ended_so text at p s h past (Some (begins ds)) e = (stops (length text), (end_outside text at p s h past (λ f. cc), end_place text at p s h past))
-ended_so text at p s h past None e = (stops (length text), (end_outside text at p s h past (λ f. cc), end_place text at p s h past))
+ended_so text at p s h past o e = (stops (length text), (end_outside text at p s h past (λ f. cc), end_place text at p s h past))
 
 -- byte by byte, so many being left
 read_on : (text : List ℕ) (left at : ℕ) (p : Place) (s : Partial) → Reaches text at p s → at + left ≡ length text → (r : Reading) × IsReading text r

@@ -117,15 +117,7 @@ named_kind p t r n (s, runs, ends) =
   where
     by_name : (u : TokenValue) → Fits p u r → token_kind u ≡ kind.Name → token_kind t ≡ kind.Name
     by_name (name m) fits is = ap token_kind (n.named m fits)
-    by_name (numeral _) fits is = absurd (cc)
-    by_name (text _) fits is = absurd (cc)
-    by_name (fault _) fits is = absurd (cc)
-    by_name (cell _) fits is = absurd (cc)
-    by_name (range _) fits is = absurd (cc)
-    by_name (sign _) fits is = absurd (cc)
-    by_name opening fits is = absurd (cc)
-    by_name closing fits is = absurd (cc)
-    by_name semicolon fits is = absurd (cc)
+    by_name u fits is = absurd (cc)
 
 word_ends : (p : List ℕ) (t : TokenValue) (r : List ℕ) (m : ℕ) (a : Address) → IsNext p t r → partial_after (Some Fresh) p ≡ Some (Word m a) → address_kind a ≡ Some (token_kind t) → Ends p r (token_kind t)
 word_ends p t r m a n runs whole = by_test (nat_lt 0 m && is_open (first_byte r)) refl
@@ -136,18 +128,12 @@ word_ends p t r m a n runs whole = by_test (nat_lt 0 m && is_open (first_byte r)
         subst (λ (k : TokenKind). Ends p r k) (sym (named_kind p t r n ends)) ends
     by_test false k = (Word m a, runs, ap (λ (b : Bool). cond b (Some kind.Name) (address_kind a)) k ∙ whole)
 
-next_ends : (p : List ℕ) (t : TokenValue) (r : List ℕ) → IsNext p t r → Ends p r (token_kind t)
+pub next_ends : (p : List ℕ) (t : TokenValue) (r : List ℕ) → IsNext p t r → Ends p r (token_kind t)
 next_ends p (cell c) r n = let (k, m, runs) = run_cell p c n.fits.0 in word_ends p (cell c) r k (Cell (Digits m)) n runs refl
 next_ends p (range s) r n = let (first, last, a, b, e, f, l, _) = n.fits.0 in
     let (k, m, runs) = run_range p first last a b e f l in word_ends p (range s) r k (Range (Digits m)) n runs refl
 next_ends p (name m) r n = name_ends p m r n.fits
-next_ends p (numeral m) r n = plain_ends p (numeral m) r refl n.fits
-next_ends p (text t) r n = plain_ends p (text t) r refl n.fits
-next_ends p (fault e) r n = plain_ends p (fault e) r refl n.fits
-next_ends p (sign op) r n = plain_ends p (sign op) r refl n.fits
-next_ends p opening r n = plain_ends p opening r refl n.fits
-next_ends p closing r n = plain_ends p closing r refl n.fits
-next_ends p semicolon r n = plain_ends p semicolon r refl n.fits
+next_ends p t r n = plain_ends p t r refl n.fits
 
 one_token : (p : List ℕ) (t u : TokenValue) (r : List ℕ) → IsNext p t r → IsNext p u r → t ≡ u
 one_token p t u r n m = one_spelling p t u (one_end p r (token_kind t) (token_kind u) (next_ends p t r n) (next_ends p u r m)) n.fits.0 m.fits.0
@@ -158,11 +144,11 @@ some_piece [] t r n e = no_empty_token t r n.fits
 some_piece (b ∷ bs) t r n e = cc
 
 -- a list of tokens, taken apart
-abbrev Parts : ℕ → List ℕ → List Lexeme → Type 0
+abbrev pub Parts : ℕ → List ℕ → List Lexeme → Type 0
 Parts at bs ls = ((bs ≡ []) × (ls ≡ [])) ⊎ ((piece : List ℕ) × (behind : List ℕ) × (t : TokenValue) × (more : List Lexeme) × (bs ≡ piece ++ behind) × IsNext piece t behind
     × Lexes (at + length piece + space_count behind) (past_spaces behind) more × (ls ≡ record { from = at; to = at + length piece; token = t } ∷ more))
 
-parts : {at : ℕ} {bs : List ℕ} {ls : List Lexeme} → Lexes at bs ls → Parts at bs ls
+pub parts : {at : ℕ} {bs : List ℕ} {ls : List Lexeme} → Lexes at bs ls → Parts at bs ls
 parts cut.end = inl (refl, refl)
 parts (cut.next {piece = piece} {behind = behind} {t = t} {ls = ls} n more) = inr (piece, behind, t, ls, refl, n, more, refl)
 

@@ -21,6 +21,7 @@ use Rattle.formula_tree.specs.Grammar as grammar
 use Rattle.formula_read.proofs.Choices.{nothing, same}
 use Rattle.formula_read.specs.declared.brackets.Bracket.{Bracket}
 use Rattle.formula_read.specs.declared.brackets.Bracket.TheVariants.{Group, Call}
+use Rattle.formula_read.specs.Classes.{token_class}
 use Rattle.formula_read.specs.Places.{Place, head, wants, has, named, begins, operand, advance, advance_all, IsProper, AreProper, IsExpression, AreFormulaTokens, IsFormulaFront}
 
 -- from where a call's arguments begin, an expression is read as from where one is wanted
@@ -160,14 +161,7 @@ attached (grammar.binary {m = m} {op = o} {ss = ss} {ts = us} {s = s} d f) op {t
         let (u, k, g) = again (omega arith) in
         (tree.bin o s u, suc (max m k), subst (λ (l : List TokenValue). Derives (precedence_of_operator o) l (tree.bin o s u) (suc (max m k))) (sym (append_assoc ss (sign o ∷ us) (sign op ∷ ts))) (whole u k g))
     by_precedence (inr same) again whole level = level (omega arith)
-attached (grammar.prefix d) op e h = absurd (let most = most_precedence op in omega arith)
-attached grammar.numeral op e h = absurd (let most = most_precedence op in omega arith)
-attached grammar.text op e h = absurd (let most = most_precedence op in omega arith)
-attached grammar.fault op e h = absurd (let most = most_precedence op in omega arith)
-attached grammar.cell op e h = absurd (let most = most_precedence op in omega arith)
-attached grammar.range op e h = absurd (let most = most_precedence op in omega arith)
-attached (grammar.brackets d) op e h = absurd (let most = most_precedence op in omega arith)
-attached (grammar.call f a) op e h = absurd (let most = most_precedence op in omega arith)
+attached d op e h = absurd (let most = most_precedence op in omega arith)
 
 -- What stands before an operand: with any operand it is an expression.
 abbrev Begun : List TokenValue → Type 0
@@ -295,7 +289,7 @@ module _ (ts : List TokenValue) (t : TokenValue) (next : Place) where
   leaf_goes ds o q opened begun e leaf m = stands_next m (o, q ++ t ∷ [], opened, begun (t ∷ []) leaf, behind_both o q e)
 
 operand_goes : (ts : List TokenValue) (t : TokenValue) (next : Place) (ds : List Bracket) (o q : List TokenValue) → Opened ds o → Begun q → ts ≡ sign Eq ∷ (o ++ q) → IsProper t →
-    operand ds t ≡ Some next → Stands next (ts ++ t ∷ [])
+    operand ds (token_class t) ≡ Some next → Stands next (ts ++ t ∷ [])
 operand_goes ts (numeral n) next ds o q opened begun e h m = leaf_goes ts (numeral n) next ds o q opened begun e (by_itself grammar.numeral) m
 operand_goes ts (text b) next ds o q opened begun e h m = leaf_goes ts (text b) next ds o q opened begun e (by_itself grammar.text) m
 operand_goes ts (fault b) next ds o q opened begun e h m = leaf_goes ts (fault b) next ds o q opened begun e (by_itself grammar.fault) m
@@ -307,16 +301,6 @@ operand_goes ts (sign Add) next ds o q opened begun e h m =
     stands_next ts (sign Add) next m (o, q ++ sign Add ∷ [], opened, begun_prefix q Plus begun, behind_both ts (sign Add) next o q e)
 operand_goes ts (sign Sub) next ds o q opened begun e h m =
     stands_next ts (sign Sub) next m (o, q ++ sign Sub ∷ [], opened, begun_prefix q Minus begun, behind_both ts (sign Sub) next o q e)
-operand_goes ts (sign Pow) next ds o q opened begun e h m = nothing m
-operand_goes ts (sign Mul) next ds o q opened begun e h m = nothing m
-operand_goes ts (sign Div) next ds o q opened begun e h m = nothing m
-operand_goes ts (sign Join) next ds o q opened begun e h m = nothing m
-operand_goes ts (sign Eq) next ds o q opened begun e h m = nothing m
-operand_goes ts (sign Ne) next ds o q opened begun e h m = nothing m
-operand_goes ts (sign Lt) next ds o q opened begun e h m = nothing m
-operand_goes ts (sign Le) next ds o q opened begun e h m = nothing m
-operand_goes ts (sign Gt) next ds o q opened begun e h m = nothing m
-operand_goes ts (sign Ge) next ds o q opened begun e h m = nothing m
 operand_goes ts opening next ds o q opened begun e h m =
     stands_next ts opening next m (
       o ++ (q ++ opening ∷ []),
@@ -325,8 +309,7 @@ operand_goes ts opening next ds o q opened begun e h m =
       begun_none,
       behind_both ts opening next o q e ∙ ap (λ (l : List TokenValue). sign Eq ∷ l) (sym (append-nil (o ++ (q ++ opening ∷ [])))),
     )
-operand_goes ts closing next ds o q opened begun e h m = nothing m
-operand_goes ts semicolon next ds o q opened begun e h m = nothing m
+operand_goes ts t next ds o q opened begun e h m = nothing m
 
 has_goes : (ts : List TokenValue) (t : TokenValue) (next : Place) (ds : List Bracket) → Stands (has ds) ts → advance (has ds) t ≡ Some next → Stands next (ts ++ t ∷ [])
 has_goes ts (sign op) next ds (o, s, opened, whole, e) m =
@@ -349,13 +332,7 @@ has_goes ts semicolon next (Call ∷ ds) (o, s, (p, q, fun, a, opened, begun, f,
   where
     regroup : (p q a s : List TokenValue) (n : TokenValue) → ((p ++ (q ++ (n ∷ opening ∷ a))) ++ s) ++ semicolon ∷ [] ≡ (p ++ (q ++ (n ∷ opening ∷ (a ++ (s ++ semicolon ∷ []))))) ++ []
     regroup p q a s n = simp (append_assoc, append-nil)
-has_goes ts (numeral _) next ds h m = nothing m
-has_goes ts (text _) next ds h m = nothing m
-has_goes ts (fault _) next ds h m = nothing m
-has_goes ts (cell _) next ds h m = nothing m
-has_goes ts (range _) next ds h m = nothing m
-has_goes ts (name _) next ds h m = nothing m
-has_goes ts opening next ds h m = nothing m
+has_goes ts t next ds h m = nothing m
 
 named_goes : (ts : List TokenValue) (t : TokenValue) (next : Place) (ds : List Bracket) → Stands (named ds) ts → advance (named ds) t ≡ Some next → Stands next (ts ++ t ∷ [])
 named_goes ts opening next ds (o, q, fun, opened, begun, f, e) m =
@@ -368,17 +345,9 @@ named_goes ts opening next ds (o, q, fun, opened, begun, f, e) m =
       f,
       behind_both ts opening next o (q ++ name (name_of fun) ∷ []) e ∙ ap (λ (l : List TokenValue). sign Eq ∷ (o ++ l)) (append_assoc q (name (name_of fun) ∷ []) (opening ∷ [])),
     )
-named_goes ts (numeral _) next ds h m = nothing m
-named_goes ts (text _) next ds h m = nothing m
-named_goes ts (fault _) next ds h m = nothing m
-named_goes ts (cell _) next ds h m = nothing m
-named_goes ts (range _) next ds h m = nothing m
-named_goes ts (name _) next ds h m = nothing m
-named_goes ts (sign _) next ds h m = nothing m
-named_goes ts closing next ds h m = nothing m
-named_goes ts semicolon next ds h m = nothing m
+named_goes ts t next ds h m = nothing m
 
-first_goes : (ts : List TokenValue) (t : TokenValue) (next : Place) (ds : List Bracket) → Stands (begins ds) ts → IsProper t → operand (Call ∷ ds) t ≡ Some next → Stands next (ts ++ t ∷ [])
+first_goes : (ts : List TokenValue) (t : TokenValue) (next : Place) (ds : List Bracket) → Stands (begins ds) ts → IsProper t → operand (Call ∷ ds) (token_class t) ≡ Some next → Stands next (ts ++ t ∷ [])
 first_goes ts t next ds (o, q, fun, opened, begun, f, e) h m =
     let inner = o ++ (q ++ (name (name_of fun) ∷ opening ∷ [])) in
     operand_goes ts t next (Call ∷ ds) inner [] (o, q, fun, [], opened, begun, f, parts_none, refl) begun_none (e ∙ ap (λ (l : List TokenValue). sign Eq ∷ l) (sym (append-nil inner))) h m
@@ -393,38 +362,11 @@ begins_goes ts closing next ds (o, q, fun, opened, begun, f, e) h m =
       begun (n ∷ opening ∷ closing ∷ []) (called_empty fun f),
       behind_both ts closing next o (q ++ (n ∷ opening ∷ [])) e ∙ ap (λ (l : List TokenValue). sign Eq ∷ (o ++ l)) (append_assoc q (n ∷ opening ∷ []) (closing ∷ [])),
     )
-begins_goes ts (numeral n) next ds s h m = first_goes ts (numeral n) next ds s h m
-begins_goes ts (text b) next ds s h m = first_goes ts (text b) next ds s h m
-begins_goes ts (fault b) next ds s h m = first_goes ts (fault b) next ds s h m
-begins_goes ts (cell b) next ds s h m = first_goes ts (cell b) next ds s h m
-begins_goes ts (range b) next ds s h m = first_goes ts (range b) next ds s h m
-begins_goes ts (name n) next ds s h m = first_goes ts (name n) next ds s h m
-begins_goes ts (sign op) next ds s h m = first_goes ts (sign op) next ds s h m
-begins_goes ts opening next ds s h m = first_goes ts opening next ds s h m
-begins_goes ts semicolon next ds s h m = first_goes ts semicolon next ds s h m
+begins_goes ts t next ds s h m = first_goes ts t next ds s h m
 
 head_goes : (ts : List TokenValue) (t : TokenValue) (next : Place) → Stands head ts → advance head t ≡ Some next → Stands next (ts ++ t ∷ [])
 head_goes ts (sign Eq) next e m = stands_next ts (sign Eq) next m ([], [], refl, begun_none, (λ i. e i ++ sign Eq ∷ []))
-head_goes ts (sign Add) next e m = nothing m
-head_goes ts (sign Sub) next e m = nothing m
-head_goes ts (sign Pow) next e m = nothing m
-head_goes ts (sign Mul) next e m = nothing m
-head_goes ts (sign Div) next e m = nothing m
-head_goes ts (sign Join) next e m = nothing m
-head_goes ts (sign Ne) next e m = nothing m
-head_goes ts (sign Lt) next e m = nothing m
-head_goes ts (sign Le) next e m = nothing m
-head_goes ts (sign Gt) next e m = nothing m
-head_goes ts (sign Ge) next e m = nothing m
-head_goes ts (numeral _) next e m = nothing m
-head_goes ts (text _) next e m = nothing m
-head_goes ts (fault _) next e m = nothing m
-head_goes ts (cell _) next e m = nothing m
-head_goes ts (range _) next e m = nothing m
-head_goes ts (name _) next e m = nothing m
-head_goes ts opening next e m = nothing m
-head_goes ts closing next e m = nothing m
-head_goes ts semicolon next e m = nothing m
+head_goes ts t next e m = nothing m
 
 place_goes : (p : Place) (ts : List TokenValue) (t : TokenValue) (next : Place) → Stands p ts → IsProper t → advance p t ≡ Some next → Stands next (ts ++ t ∷ [])
 place_goes head ts t next s h m = head_goes ts t next s m

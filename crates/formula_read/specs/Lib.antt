@@ -2,6 +2,7 @@ pub mod Partial
 pub mod Longest
 pub mod Behind
 pub mod Read
+pub mod Classes
 pub mod Places
 pub mod Reading
 pub mod Nested

@@ -1,5 +1,5 @@
 -- Trees that were read, each with the nesting of its text.
-use Rattle.std.specs.Prelude.{ℕ, suc, max, ◌≡◌, ◌<◌, ◌≤◌, List, [], ◌∷◌, ◌++◌, Result, Ok, Err}
+use Rattle.std.specs.Prelude.{ℕ, suc, max, ◌≡◌, ◌<◌, List, [], ◌∷◌, ◌++◌, Result, Ok, Err}
 use Rattle.ss_base.specs.declared.types.Spot.{Spot}
 use Rattle.ss_base.specs.declared.types.Span.{Span}
 use Rattle.formula_tree.specs.declared.operators.PreOp.{PreOp}
@@ -8,7 +8,6 @@ use Rattle.formula_tree.specs.declared.functions.Fun.{Fun}
 use Rattle.formula_tree.specs.Tree.{Tree, pre, bin, call, trees_from}
 use Rattle.formula_read.specs.declared.tree_err.TreeErr.{TreeErr}
 use Rattle.formula_read.specs.declared.tree_err.TreeErr.TheVariants as tree_err
-pub use Rattle.formula_read.specs.Readings.{ReadAs}
 
 -- an operand
 pub record Nested : Type 0 where

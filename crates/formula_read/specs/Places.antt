@@ -2,15 +2,18 @@
 use Rattle.std.specs.Prelude.{ℕ, ◌≡◌, List, [], ◌∷◌, ◌++◌, Option, Some, None, map}
 use Rattle.ss_base.specs.declared.types.Spot.{Spot}
 use Rattle.ss_base.specs.declared.types.Span.{Span}
-use Rattle.formula_tree.specs.declared.operators.BinOp.TheVariants.{Add, Sub, Eq}
+use Rattle.formula_tree.specs.declared.operators.BinOp.TheVariants.{Eq}
 use Rattle.formula_tree.specs.declared.functions.Fun.{Fun}
 use Rattle.formula_tree.specs.Names.{name_of}
 use Rattle.formula_tree.specs.Tree.{Tree}
 use Rattle.formula_tree.specs.WellFormed.{IsFun}
-use Rattle.formula_tree.specs.Tokens.{TokenValue, numeral, text, fault, cell, range, name, sign, opening, closing, semicolon}
+use Rattle.formula_tree.specs.Tokens.{TokenValue, name, sign}
 use Rattle.formula_tree.specs.Lexing.{Lexeme, Lexes}
 use Rattle.formula_tree.specs.Grammar.{Derives}
-pub use Rattle.formula_tree.specs.Grammar.{IsFormulaText}
+use Rattle.formula_read.specs.declared.class.SignClass.TheVariants.{Prefix, Equals}
+use Rattle.formula_read.specs.declared.class.TokenClass.{TokenClass}
+use Rattle.formula_read.specs.declared.class.TokenClass.TheVariants.{Leaf, Name, Sign, Open, Close, Semi}
+use Rattle.formula_read.specs.Classes.{token_class}
 use Rattle.formula_read.specs.declared.brackets.Bracket.{Bracket}
 use Rattle.formula_read.specs.declared.brackets.Bracket.TheVariants.{Group, Call}
 
@@ -23,17 +26,12 @@ pub data Place : Type 0 where
   begins : List Bracket → Place  -- a call's bracket is there, and its first argument or its end is wanted
 
 -- what an operand's first token leads to
-abbrev pub operand : List Bracket → TokenValue → Option Place
-operand ds (numeral n) = Some (has ds)
-operand ds (text t) = Some (has ds)
-operand ds (fault e) = Some (has ds)
-operand ds (cell c) = Some (has ds)
-operand ds (range r) = Some (has ds)
-operand ds (name n) = Some (named ds)
-operand ds (sign Add) = Some (wants ds)
-operand ds (sign Sub) = Some (wants ds)
-operand ds opening = Some (wants (Group ∷ ds))
-operand ds t = None
+abbrev pub operand : List Bracket → TokenClass → Option Place
+operand ds Leaf = Some (has ds)
+operand ds Name = Some (named ds)
+operand ds (Sign Prefix) = Some (wants ds)
+operand ds Open = Some (wants (Group ∷ ds))
+operand ds c = None
 
 -- a bracket closed
 abbrev pub behind_closing : List Bracket → Option Place
@@ -45,19 +43,22 @@ abbrev pub behind_semicolon : List Bracket → Option Place
 behind_semicolon (Call ∷ ds) = Some (wants (Call ∷ ds))
 behind_semicolon ds = None
 
--- where the reader stands after one more token, if some formula goes on so
+-- where the reader stands after one more token of this class, if some formula goes on so
+abbrev pub after : Place → TokenClass → Option Place
+after head (Sign Equals) = Some (wants [])
+after head c = None
+after (wants ds) c = operand ds c
+after (has ds) (Sign s) = Some (wants ds)
+after (has ds) Close = behind_closing ds
+after (has ds) Semi = behind_semicolon ds
+after (has ds) c = None
+after (named ds) Open = Some (begins ds)
+after (named ds) c = None
+after (begins ds) Close = Some (has ds)
+after (begins ds) c = operand (Call ∷ ds) c
+
 abbrev pub advance : Place → TokenValue → Option Place
-advance head (sign Eq) = Some (wants [])
-advance head t = None
-advance (wants ds) t = operand ds t
-advance (has ds) (sign op) = Some (wants ds)
-advance (has ds) closing = behind_closing ds
-advance (has ds) semicolon = behind_semicolon ds
-advance (has ds) t = None
-advance (named ds) opening = Some (begins ds)
-advance (named ds) t = None
-advance (begins ds) closing = Some (has ds)
-advance (begins ds) t = operand (Call ∷ ds) t
+advance p t = after p (token_class t)
 
 abbrev pub advance_all : Option Place → List TokenValue → Option Place
 advance_all None ts = None

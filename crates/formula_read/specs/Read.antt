@@ -5,7 +5,6 @@ use Rattle.formula_tree.specs.Lexing.{Lexeme, Lexes, IsTokenFront}
 use Rattle.formula_read.specs.declared.kinds.TokenKind.{TokenKind}
 use Rattle.formula_read.specs.declared.kinds.TokenKind.TheVariants as kind
 use Rattle.formula_read.specs.declared.kinds.Token.{Token}
-pub use Rattle.formula_read.specs.Readings.{IsLongestFormulaFront}
 
 abbrev pub token_kind : TokenValue → TokenKind
 token_kind (numeral n) = kind.Numeral

@@ -1,75 +1,52 @@
--- A reader of a formula's text, byte by byte: where it stands between tokens, and how far the token at hand has come.
-use Rattle.std.specs.Prelude.{ℕ, nat_eq, ◌&&◌, ◌||◌, Bool, true, false, if◌then◌else◌, is_some, List, [], ◌∷◌, Option, Some, None}
-use Rattle.std.specs.Char.{is_ascii_alphabetic, is_ascii_digit}
+-- A reader of a formula's text, byte by byte: how far the token at hand was read, and the place behind that token, or
+-- behind the last one where no token is at hand. A name is taken for a leaf until its end.
+use Rattle.std.specs.Prelude.{ℕ, nat_eq, ◌&&◌, Bool, true, false, if◌then◌else◌, List, [], ◌∷◌, Option, Some, None, option_and_then}
+use Rattle.std.specs.Option.{option_zip}
 use Rattle.formula_read.specs.declared.kinds.TokenKind.{TokenKind}
 use Rattle.formula_read.specs.declared.kinds.TokenKind.TheVariants as kind
 use Rattle.formula_read.specs.declared.partial.Partial.{Partial}
 use Rattle.formula_read.specs.declared.partial.Partial.TheVariants.{Fresh}
-use Rattle.formula_read.specs.Partial.{partial_step, fresh_step, kind_at, is_single_sign}
-use Rattle.formula_read.specs.declared.brackets.Bracket.{Bracket}
-use Rattle.formula_read.specs.declared.brackets.Bracket.TheVariants.{Group, Call}
-use Rattle.formula_read.specs.Places.{Place, head, wants, has, named, begins, behind_closing, behind_semicolon}
+use Rattle.formula_read.specs.Partial.{partial_step, fresh_step, kind_at}
+use Rattle.formula_read.specs.Classes.{class_begun}
+use Rattle.formula_read.specs.Places.{Place, head, has, named, after}
 
--- the place behind a token of a kind
-abbrev pub operand_of : List Bracket → TokenKind → Option Place
-operand_of ds kind.Numeral = Some (has ds)
-operand_of ds kind.Text = Some (has ds)
-operand_of ds kind.Error = Some (has ds)
-operand_of ds kind.Cell = Some (has ds)
-operand_of ds kind.Range = Some (has ds)
-operand_of ds kind.Name = Some (named ds)
-operand_of ds kind.Sign = Some (wants ds)
-operand_of ds kind.Open = Some (wants (Group ∷ ds))
-operand_of ds k = None
+-- the place behind the token that begins with the byte
+abbrev pub after_begun : Place → ℕ → Option Place
+after_begun p b = option_and_then (after p) (class_begun b)
 
-abbrev pub after_kind : Place → TokenKind → Option Place
-after_kind head kind.Sign = Some (wants [])
-after_kind head k = None
-after_kind (wants ds) k = operand_of ds k
-after_kind (has ds) kind.Sign = Some (wants ds)
-after_kind (has ds) kind.Close = behind_closing ds
-after_kind (has ds) kind.Semi = behind_semicolon ds
-after_kind (has ds) k = None
-after_kind (named ds) kind.Open = Some (begins ds)
-after_kind (named ds) k = None
-after_kind (begins ds) kind.Close = Some (has ds)
-after_kind (begins ds) k = operand_of (Call ∷ ds) k
-
--- a token that may stand at a place begins with the byte
-abbrev pub begins_leaf : ℕ → Bool
-begins_leaf b = is_ascii_digit b || (is_ascii_alphabetic b || (nat_eq b 34 || (nat_eq b 35 || nat_eq b 36)))
-
-abbrev pub begins_operand : ℕ → Bool
-begins_operand b = begins_leaf b || (nat_eq b 40 || (nat_eq b 43 || nat_eq b 45))
-
-abbrev pub begins_sign : ℕ → Bool
-begins_sign b = is_single_sign b || (nat_eq b 60 || nat_eq b 62)
-
-abbrev pub admits : Place → ℕ → Bool
-admits head b = nat_eq b 61
-admits (wants ds) b = begins_operand b
-admits (has ds) b = begins_sign b || ((nat_eq b 41 && is_some (behind_closing ds)) || (nat_eq b 59 && is_some (behind_semicolon ds)))
-admits (named ds) b = nat_eq b 40
-admits (begins ds) b = nat_eq b 41 || begins_operand b
-
-abbrev pub with_token : Place → Option Partial → Option (Place × Partial)
-with_token p (Some s) = Some (p, s)
-with_token p None = None
-
+-- the first byte of a token
 abbrev pub read_first : Place → ℕ → Option (Place × Partial)
-read_first p b = if admits p b then with_token p (fresh_step b) else None
+read_first p b = option_zip (after_begun p b) (fresh_step b)
 
--- a byte between tokens: spaces may stand behind the `=`
+-- the `=` was read
+abbrev pub is_inside : Place → Bool
+is_inside head = false
+is_inside p = true
+
+-- a space, which may stand behind the `=`
+abbrev pub skips : Place → ℕ → Bool
+skips p b = is_inside p && nat_eq b 32
+
+-- a byte between tokens
 abbrev pub read_between : Place → ℕ → Option (Place × Partial)
-read_between head b = read_first head b
-read_between p b = if nat_eq b 32 then Some (p, Fresh) else read_first p b
+read_between p b = if skips p b then Some (p, Fresh) else read_first p b
 
 abbrev pub read_between_at : Option Place → ℕ → Option (Place × Partial)
 read_between_at (Some p) b = read_between p b
 read_between_at None b = None
 
+-- the place behind a name that was taken for a leaf
+abbrev pub behind_name : Place → Place
+behind_name (has ds) = named ds
+behind_name p = p
+
+-- the place behind the token at hand, by its kind
+abbrev pub behind_token : TokenKind → Place → Place
+behind_token kind.Name p = behind_name p
+behind_token k p = p
+
 abbrev pub place_after : Place → Option TokenKind → Option Place
-place_after p (Some k) = after_kind p k
+place_after p (Some k) = Some (behind_token k p)
 place_after p None = None
 
 -- a byte that goes on with the token at hand, or ends it

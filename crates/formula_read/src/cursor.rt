@@ -1,8 +1,9 @@
 ghost use Rattle.std.specs.Prelude.{◌≡◌, ◌↔◌, [], Some, IfOk, IsTrue};
-ghost use Rattle.formula_read.specs.Places.{head, has};
-ghost use Rattle.formula_read.specs.Reading.{operand_of, after_kind, begins_leaf, begins_operand, begins_sign, admits, read_between};
+ghost use Rattle.formula_read.specs.Places.{head, has, operand, after};
+ghost use Rattle.formula_read.specs.Reading.{behind_token, read_first, skips, read_between};
 
 use crate::brackets::{Bracket, Brackets};
+use crate::class::{SignClass, TokenClass};
 use crate::kinds::TokenKind;
 use crate::partial::Partial;
 use ss_base::Memory;
@@ -54,65 +55,85 @@ impl Cursor {
         }
     }
 
-    /// The place behind a token of this kind, or `None` where no such token may stand.
-    pub fn after(self, kind: TokenKind) -> Result<Option<Cursor>, Memory>
-        ensures { IfOk result (λ p. p ≡ after_kind self kind) }
+    /// The place behind a token of this class, or `None` where no such token may stand.
+    fn after(self, class: TokenClass) -> Result<Option<Cursor>, Memory>
+        ensures { IfOk result (λ p. p ≡ after self class) }
     {
         let Cursor {
             stage,
             mut brackets,
         } = self;
-        match (stage, kind) {
-            (Stage::Head, TokenKind::Sign) => Ok(Some(Cursor {
+        match (stage, class) {
+            (Stage::Head, TokenClass::Sign(SignClass::Equals)) => Ok(Some(Cursor {
                 stage: Stage::Wants,
                 brackets,
             })),
-            (Stage::Named, TokenKind::Open) => Ok(Some(Cursor {
+            (Stage::Named, TokenClass::Open) => Ok(Some(Cursor {
                 stage: Stage::Begins,
                 brackets,
             })),
-            (Stage::Begins, TokenKind::Close) => Ok(Some(Cursor {
+            (Stage::Begins, TokenClass::Close) => Ok(Some(Cursor {
                 stage: Stage::Has,
                 brackets,
             })),
             (Stage::Head | Stage::Named, _) => Ok(None),
-            (Stage::Wants, _) => after_operand(brackets, kind),
-            (Stage::Has, _) => Ok(behind_operand(brackets, kind)),
+            (Stage::Wants, _) => after_operand(brackets, class),
+            (Stage::Has, _) => Ok(behind_operand(brackets, class)),
             (Stage::Begins, _) => {
                 brackets.push(Bracket::Call)?;
-                after_operand(brackets, kind)
+                after_operand(brackets, class)
             }
         }
     }
 
-    /// A byte between two tokens: a space, or the first one of a token that may stand here.
-    pub fn read_between(self, b: u8) -> Option<(Cursor, Partial)>
-        ensures { result ≡ read_between self b }
+    /// A byte between two tokens: a space, or the first one of a token that may stand here. Then it
+    /// gives the place behind that token, where a name is taken for a leaf.
+    pub fn read_between(self, b: u8) -> Result<Option<(Cursor, Partial)>, Memory>
+        ensures { IfOk result (λ r. r ≡ read_between self b) }
     {
-        if b == b' ' && self.stage != Stage::Head {
-            return Some((self, Partial::Fresh));
+        if self.skips(b) {
+            Ok(Some((self, Partial::Fresh)))
+        } else {
+            self.read_first(b)
         }
-        if !self.admits(b) {
-            return None;
-        }
-        let token = Partial::Fresh.step(b)?;
-        Some((self, token))
     }
 
-    /// Whether a token that may stand here begins with the byte.
-    fn admits(&self, b: u8) -> bool
-        ensures { result ≡ admits self.now b }
+    /// Whether the byte is a space that may stand here, between two tokens.
+    fn skips(&self, b: u8) -> bool
+        ensures { result ≡ skips self.now b }
     {
         match self.stage {
-            Stage::Head => b == b'=',
-            Stage::Wants => begins_operand(b),
-            Stage::Has => {
-                begins_sign(b)
-                    || (b == b')' && !self.brackets.is_empty())
-                    || (b == b';' && self.brackets.is_in_call())
-            }
-            Stage::Named => b == b'(',
-            Stage::Begins => b == b')' || begins_operand(b),
+            Stage::Head => false,
+            _ => b == b' ',
+        }
+    }
+
+    /// The first byte of a token.
+    fn read_first(self, b: u8) -> Result<Option<(Cursor, Partial)>, Memory>
+        ensures { IfOk result (λ r. r ≡ read_first self b) }
+    {
+        let Some(class) = TokenClass::begun(b) else {
+            return Ok(None);
+        };
+        let Some(place) = self.after(class)? else {
+            return Ok(None);
+        };
+        match Partial::Fresh.step(b) {
+            Some(token) => Ok(Some((place, token))),
+            None => Ok(None),
+        }
+    }
+
+    /// The place behind the token that led here, once its kind is known: a name was taken for a leaf.
+    pub fn behind(self, kind: TokenKind) -> Cursor
+        ensures { result ≡ behind_token kind self }
+    {
+        match (kind, self.stage) {
+            (TokenKind::Name, Stage::Has) => Cursor {
+                stage: Stage::Named,
+                brackets: self.brackets,
+            },
+            _ => self,
         }
     }
 
@@ -124,65 +145,43 @@ impl Cursor {
     }
 }
 
-/// The place behind a token of this kind, where an operand is wanted.
-fn after_operand(mut brackets: Brackets, kind: TokenKind) -> Result<Option<Cursor>, Memory>
-    ensures { IfOk result (λ p. p ≡ operand_of brackets kind) }
+/// The place behind a token of this class, where an operand is wanted.
+fn after_operand(mut brackets: Brackets, class: TokenClass) -> Result<Option<Cursor>, Memory>
+    ensures { IfOk result (λ p. p ≡ operand brackets class) }
 {
-    let stage = match kind {
-        TokenKind::Name => Stage::Named,
-        TokenKind::Sign => Stage::Wants,
-        TokenKind::Open => {
+    let stage = match class {
+        TokenClass::Leaf => Stage::Has,
+        TokenClass::Name => Stage::Named,
+        TokenClass::Sign(SignClass::Prefix) => Stage::Wants,
+        TokenClass::Open => {
             brackets.push(Bracket::Group)?;
             Stage::Wants
         }
-        TokenKind::Close | TokenKind::Semi => return Ok(None),
-        _ => Stage::Has,
+        _ => return Ok(None),
     };
     Ok(Some(Cursor { stage, brackets }))
 }
 
-/// The place behind a token of this kind, where an operand is there.
-fn behind_operand(mut brackets: Brackets, kind: TokenKind) -> Option<Cursor>
-    ensures { result ≡ after_kind (has brackets) kind }
+/// The place behind a token of this class, where an operand is there.
+fn behind_operand(mut brackets: Brackets, class: TokenClass) -> Option<Cursor>
+    ensures { result ≡ after (has brackets) class }
 {
-    match kind {
-        TokenKind::Sign => Some(Cursor {
+    match class {
+        TokenClass::Sign(_) => Some(Cursor {
             stage: Stage::Wants,
             brackets,
         }),
-        TokenKind::Close => {
+        TokenClass::Close => {
             brackets.pop()?;
             Some(Cursor {
                 stage: Stage::Has,
                 brackets,
             })
         }
-        TokenKind::Semi if brackets.is_in_call() => Some(Cursor {
+        TokenClass::Semi if brackets.is_in_call() => Some(Cursor {
             stage: Stage::Wants,
             brackets,
         }),
         _ => None,
     }
-}
-
-/// A numeral, a text, an error, a reference or a name begins with the byte.
-fn begins_leaf(b: u8) -> bool
-    ensures { result ≡ begins_leaf b }
-{
-    matches!(b, b'0'..=b'9' | b'A'..=b'Z' | b'a'..=b'z' | b'"' | b'#' | b'$')
-}
-
-fn begins_operand(b: u8) -> bool
-    ensures { result ≡ begins_operand b }
-{
-    begins_leaf(b) || matches!(b, b'(' | b'+' | b'-')
-}
-
-fn begins_sign(b: u8) -> bool
-    ensures { result ≡ begins_sign b }
-{
-    matches!(
-        b,
-        b'+' | b'-' | b'*' | b'/' | b'^' | b'&' | b'=' | b'<' | b'>'
-    )
 }

@@ -29,7 +29,7 @@ pub(crate) fn refusal(alloc: Global, text: &[u8]) -> Result<Option<u32>, Memory>
             None => return Ok(Some(i as u32)),
         }
     }
-    if may_end(place, token)? {
+    if may_end(place, token) {
         Ok(None)
     } else {
         Ok(Some(text.len() as u32))
@@ -41,38 +41,36 @@ fn read_byte(place: Cursor, token: Partial, b: u8) -> Result<Option<(Cursor, Par
     ensures { IfOk result (λ r. r ≡ read_byte place token b) }
 {
     if let Partial::Fresh = token {
-        return Ok(place.read_between(b));
+        return place.read_between(b);
     }
     if let Some(token) = token.step(b) {
         return Ok(Some((place, token)));
     }
-    match place_after(place, token, Some(b))? {
-        Some(place) => Ok(place.read_between(b)),
+    match place_after(place, token, Some(b)) {
+        Some(place) => place.read_between(b),
         None => Ok(None),
     }
 }
 
 /// Whether a formula may end here.
-fn may_end(place: Cursor, token: Partial) -> Result<bool, Memory>
-    ensures { IfOk result (λ ends. IsTrue ends ↔ (place_at_end place token ≡ Some (has []))) }
+fn may_end(place: Cursor, token: Partial) -> bool
+    ensures { IsTrue result ↔ (place_at_end place token ≡ Some (has [])) }
 {
     if let Partial::Fresh = token {
-        return Ok(place.is_end());
+        return place.is_end();
     }
-    match place_after(place, token, None)? {
-        Some(place) => Ok(place.is_end()),
-        None => Ok(false),
+    match place_after(place, token, None) {
+        Some(place) => place.is_end(),
+        None => false,
     }
 }
 
-/// The place behind the token at hand, where this byte comes next.
-fn place_after(place: Cursor, token: Partial, next: Option<u8>) -> Result<Option<Cursor>, Memory>
-    ensures { IfOk result (λ p. p ≡ place_after place (kind_at token next)) }
+/// The place behind the token at hand, where this byte comes next, or `None` where the token isn't whole.
+fn place_after(place: Cursor, token: Partial, next: Option<u8>) -> Option<Cursor>
+    ensures { result ≡ place_after place (kind_at token next) }
 {
-    match token.kind_at(next) {
-        Some(kind) => place.after(kind),
-        None => Ok(None),
-    }
+    let kind = token.kind_at(next)?;
+    Some(place.behind(kind))
 }
 
 #[cfg(test)]

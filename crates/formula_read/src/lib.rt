@@ -3,6 +3,7 @@
 #![tactic(auto)]
 
 mod brackets;
+mod class;
 mod cursor;
 mod front;
 mod kinds;

@@ -1,4 +1,4 @@
-use Rattle.std.proofs.Common.{◌≡◌, ℕ, sym, ◌∙◌, subst, length, rules}
+use Rattle.std.proofs.Common.{◌≡◌, ℕ, refl, sym, ◌∙◌, subst, length, rules}
 use Rattle.formula_read.specs.Readings.{IsLongestFormulaFront}
 use Rattle.formula_read.proofs.Stops.{reaches_more, stopped_outside, stopped_place, end_formula, end_outside, end_place}
 use Rattle.formula_read.proofs.front.refusal.Goals as goal
@@ -17,16 +17,16 @@ returns-in-None-clause-place c p e =
     subst (λ (n : ℕ). IsLongestFormulaFront c.args.text.now n) same
     (stopped_place c.args.text.now c.loop-i.i c.loop-i.place c.loop-i.token c.loop-i.invariant c.loop-i-test.true (sym c.in_ok-next.ensures ∙ c.in-None.is))
 
-pub returns-then-branch-clause-formula : goal.returns-then-branch-clause-formula
-returns-then-branch-clause-formula c _ =
-    end_formula c.args.text.now c.loop-i.i c.loop-i.place c.loop-i.token c.loop-i.invariant c.loop-i-test.false (c.in_ok-may_end.ensures.0 c.if-branch.true)
+pub returns-then-may_end-clause-formula : goal.returns-then-may_end-clause-formula
+returns-then-may_end-clause-formula c _ =
+    end_formula c.args.text.now c.loop-i.i c.loop-i.place c.loop-i.token c.loop-i.invariant c.loop-i-test.false (c.if-may_end.ensures.0 refl)
 
-pub returns-else-branch-clause-outside : goal.returns-else-branch-clause-outside
-returns-else-branch-clause-outside c p _ =
-    end_outside c.args.text.now c.loop-i.i c.loop-i.place c.loop-i.token c.loop-i.invariant c.loop-i-test.false (λ e. let ends = c.in_ok-may_end.ensures.1 e in absurd (search rules))
+pub returns-else-may_end-clause-outside : goal.returns-else-may_end-clause-outside
+returns-else-may_end-clause-outside c p _ =
+    end_outside c.args.text.now c.loop-i.i c.loop-i.place c.loop-i.token c.loop-i.invariant c.loop-i-test.false (λ e. let ends = c.if-may_end.ensures.1 e in absurd (search rules))
 
-pub returns-else-branch-clause-place : goal.returns-else-branch-clause-place
-returns-else-branch-clause-place c p e =
+pub returns-else-may_end-clause-place : goal.returns-else-may_end-clause-place
+returns-else-may_end-clause-place c p e =
     let same : length c.args.text.now ≡ p = cc in
     subst (λ (n : ℕ). IsLongestFormulaFront c.args.text.now n) same
     (end_place c.args.text.now c.loop-i.i c.loop-i.place c.loop-i.token c.loop-i.invariant c.loop-i-test.false)
