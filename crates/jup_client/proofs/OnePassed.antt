@@ -10,7 +10,6 @@ use Rattle.sheet_ops.specs.Fits.{IntentFits}
 use Rattle.sheet_ops.specs.Squares.{Converges}
 use Rattle.sheet_ops.specs.Chains.{size_past, size_after, EachFitsAfter, PassesOwn}
 use Rattle.pair_transform.specs.Changes.{replaced}
-use Rattle.pair_transform.proofs.Replaced.{replaced_push}
 
 behind : (s : Size) (ys zs : List Intent) → EachFitsAfter s (ys ++ zs) → EachFitsAfter s zs
 behind s [] zs f = f
@@ -45,9 +44,8 @@ fits_more s done c' done' is f z sized fit =
 pub sized_more : (s : Size) (done : List Intent) (c' : Intent) (done' : List Intent) → done' ≡ done ++ c' ∷ [] → size_after s (reverse done') ≡ size_past (size_after s (reverse done)) (effect_of_intent c')
 sized_more s done c' done' is = ap (λ (ys : List Intent). size_after s ys) (ap (λ (ys : List Intent). reverse ys) is ∙ reverse-append done (c' ∷ []))
 
--- ---- one change more
-pub replaced_next : (cs : List (Option Intent)) (xs : List Intent) (i : ℕ) (x : Intent) → i < length xs → x ≡ get_or xs i x → length cs ≡ i → (c : Option Intent) (cs' : List (Option Intent)) → cs' ≡ cs ++ c ∷ [] →
-    replaced cs' (take (i + 1) xs) ≡ replaced cs (take i xs) ++ unwrap_or c x ∷ []
-replaced_next cs xs i x h at many c cs' is =
-    (λ j. replaced (is j) ((take_more xs i x h ∙ ap (λ (y : Intent). take i xs ++ y ∷ []) (sym at)) j))
-    ∙ replaced_push cs (take i xs) c x (many ∙ sym (length-take-le i xs (omega arith)))
+-- ---- one operation more, of which a change is noted or none
+pub replaced_next : (xs : List Intent) (i : ℕ) (x : Intent) → i < length xs → x ≡ get_or xs i x → (cs more : List (Option Intent)) (c : Option Intent) →
+    ((ys : List Intent) (y : Intent) → length ys ≡ i → replaced more (ys ++ y ∷ []) ≡ replaced cs ys ++ unwrap_or c y ∷ []) → replaced more (take (i + 1) xs) ≡ replaced cs (take i xs) ++ unwrap_or c x ∷ []
+replaced_next xs i x h at cs more c noted =
+    ap (replaced more) (take_more xs i x h ∙ ap (λ (y : Intent). take i xs ++ y ∷ []) (sym at)) ∙ noted (take i xs) x (length-take-le i xs (omega arith))

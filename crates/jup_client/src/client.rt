@@ -253,11 +253,12 @@ impl Client {
     }
 
     /// Takes what it is sent for the next entry of the history. A refused call leaves the client. It
-    /// takes a transform for each operation that is pending, and with none it does the effect on the
-    /// sheet as it came. In order, `NotMine` comes exactly for an own entry with nothing pending,
-    /// `BadPlace` exactly where the effect doesn't fit the base size, and `TooBig` exactly where the
-    /// base size afterwards would have more than 9,000 rows or 8,064 columns; none of them comes to the
-    /// client of a server's site.
+    /// takes a comparison for each pending operation that leaves the effect and is left by it, as writes
+    /// of other cells do, a transform for each other one, and then the time of doing the effect on the
+    /// sheet; with none pending the effect is done as it came. In order, `NotMine` comes exactly for an
+    /// own entry with nothing pending, `BadPlace` exactly where the effect doesn't fit the base size, and
+    /// `TooBig` exactly where the base size afterwards would have more than 9,000 rows or 8,064 columns;
+    /// none of them comes to the client of a server's site.
     pub fn take(&mut self, down: &Down) -> Result<(), TakeErr>
         ensures cause { (x : TakeErr) → (x ≡ fault.Memory → ⊥) → ((result ≡ Err x) ↔ IsRefused self.old down.now x) }
         ensures done { OnOk result (IsTaken self.old down.now self.new) }

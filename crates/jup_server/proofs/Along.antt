@@ -9,7 +9,7 @@ use Rattle.sheet_ops.specs.Chains.{size_past, sizes_past, PassesChain, EachChain
 use Rattle.sheet_ops.proofs.Chains.{passes_more, passes_still}
 use Rattle.sheet_ops.proofs.Sizes.{grows}
 use Rattle.pair_transform.specs.Changes.{replaced}
-use Rattle.pair_transform.proofs.Replaced.{replaced_push, replaced_behind}
+use Rattle.pair_transform.proofs.Replaced.{replaced_behind}
 use Rattle.jup_server.specs.Servers.{step_past}
 use Rattle.jup_server.specs.Steps.{StepFits, PassesStep}
 
@@ -61,12 +61,12 @@ module _ (s : Size) (xs : List (Option Effect)) (i : ℕ) (x : Option Effect) (h
       fits_there s (Some e ∷ xs) x ys f = fits_there (size_past s e) xs x ys f.1
 
   -- the operation past one step more, and the changed steps
-  module _ (c : Intent) (steps : List (Option (Option Effect))) (mid : Intent) (many : length steps ≡ i) (p : PassesChain s c (take i xs) (replaced steps (take i xs)) mid) where
-    pub passed_next : (d : Option (Option Effect)) (last : Intent) → PassesStep z mid x (unwrap_or d x) last → (steps' : List (Option (Option Effect))) → steps' ≡ steps ++ d ∷ [] →
-        PassesChain s c (take (i + 1) xs) (replaced steps' (take (i + 1) xs)) last
-    passed_next d last q steps' is =
+  module _ (c : Intent) (steps : List (Option (Option Effect))) (mid : Intent) (p : PassesChain s c (take i xs) (replaced steps (take i xs)) mid) where
+    pub passed_next : (d : Option (Option Effect)) (last : Intent) → PassesStep z mid x (unwrap_or d x) last → (steps' : List (Option (Option Effect))) →
+        ((ys : List (Option Effect)) (y : Option Effect) → length ys ≡ i → replaced steps' (ys ++ y ∷ []) ≡ replaced steps ys ++ unwrap_or d y ∷ []) → PassesChain s c (take (i + 1) xs) (replaced steps' (take (i + 1) xs)) last
+    passed_next d last q steps' noted =
         let there : replaced steps' (take (i + 1) xs) ≡ replaced steps (take i xs) ++ unwrap_or d x ∷ [] =
-        (λ j. replaced (is j) (more j)) ∙ replaced_push steps (take i xs) d x (many ∙ sym (length-take-le i xs (omega arith))) in
+        ap (replaced steps') more ∙ noted (take i xs) x (length-take-le i xs (omega arith)) in
         let all = pass_one s c (take i xs) (replaced steps (take i xs)) mid p x (unwrap_or d x) last (subst (λ (y : Size). PassesStep y mid x (unwrap_or d x) last) sized q) in
         subst (λ (ys : List (Option Effect)). PassesChain s c ys (replaced steps' (take (i + 1) xs)) last) (sym more)
         (subst (λ (ds : List (Option Effect)). PassesChain s c (take i xs ++ x ∷ []) ds last) (sym there) all)
@@ -93,7 +93,7 @@ module _ (s : Size) (xs : List (Option Effect)) (n : ℕ) where
   cut_fits = fits_behind s n xs
 
   -- a step put at the end stays there
-  pub end_stays : (x : Option Effect) (steps : List (Option (Option Effect))) → n ≤ length xs → length steps + n ≡ length xs → replaced steps (drop n (xs ++ x ∷ [])) ≡ replaced steps (drop n xs) ++ x ∷ []
+  pub end_stays : (x : Option Effect) (steps : List (Option (Option Effect))) → n ≤ length xs → length steps + n ≤ length xs → replaced steps (drop n (xs ++ x ∷ [])) ≡ replaced steps (drop n xs) ++ x ∷ []
   end_stays x steps h many =
       ap (replaced steps) (drop-append-le n xs (x ∷ []) h)
       ∙ replaced_behind steps (drop n xs) (x ∷ []) (let k = length-drop n xs in omega (arith, k, many, h))

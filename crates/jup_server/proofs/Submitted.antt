@@ -284,7 +284,7 @@ module _ (s : ServerState) (site : ℕ) (e : Effect) (there : site - 1 < length 
       same_test : (n : ℕ) → nat_eq n n ≡ true
       same_test n = grind (arith, nat_tests)
 
-pub advanced_is : (l x : LinkState) (e : Effect) (seen : ℕ) (op : Intent) (steps : List (Option (Option Effect))) (base : Size) → x ≡ link_sent true e l → seen - l.seen ≤ length l.chain → length steps + (seen - l.seen) ≡ length l.chain →
+pub advanced_is : (l x : LinkState) (e : Effect) (seen : ℕ) (op : Intent) (steps : List (Option (Option Effect))) (base : Size) → x ≡ link_sent true e l → seen - l.seen ≤ length l.chain → length steps + (seen - l.seen) ≤ length l.chain →
     base ≡ size_past (seen_size l seen) (effect_of_intent op) →
     record { seen = seen; issued = x.issued + 1; base = base; chain = replaced steps (drop (seen - x.seen) x.chain) } ≡ advanced l seen op (replaced steps (drop (seen - l.seen) l.chain))
 advanced_is l x e seen op steps base is within many past =
@@ -316,7 +316,7 @@ module _ (s : ServerState) (ok : IsServer s) (site : ℕ) (up : Up) (may : MayTa
       (omega (arith, h.0, n.0, ap (λ (z : Size). z.rows) sized), omega (arith, h.1, n.1, ap (λ (z : Size). z.cols) sized))
 
   module _ (steps : List (Option (Option Effect))) (last : Intent) (p : PassesChain size up.intent (drop (up.seen - x.seen) x.chain) (replaced steps (drop (up.seen - x.seen) x.chain)) last)
-      (many : length steps + (up.seen - x.seen) ≡ length x.chain) where
+      (many : length steps + (up.seen - x.seen) ≤ length x.chain) where
     abbrev done : List (Option Effect)
     done = replaced steps (drop (up.seen - (link_at s site).seen) (link_at s site).chain)
 
@@ -325,8 +325,8 @@ module _ (s : ServerState) (ok : IsServer s) (site : ℕ) (up : Up) (may : MayTa
         subst (λ (z : Size). PassesChain z up.intent (drop (up.seen - (link_at s site).seen) (link_at s site).chain) (replaced steps (drop (up.seen - (link_at s site).seen) (link_at s site).chain)) last) sized
         (subst (λ (k : LinkState). PassesChain size up.intent (drop (up.seen - k.seen) k.chain) (replaced steps (drop (up.seen - k.seen) k.chain)) last) (sym is_link) p)
 
-    many_own : length steps + (up.seen - (link_at s site).seen) ≡ length (link_at s site).chain
-    many_own = subst (λ (k : LinkState). length steps + (up.seen - k.seen) ≡ length k.chain) (sym is_link) many
+    many_own : length steps + (up.seen - (link_at s site).seen) ≤ length (link_at s site).chain
+    many_own = subst (λ (k : LinkState). length steps + (up.seen - k.seen) ≤ length k.chain) (sym is_link) many
 
     next_own : IsNextLink (link_at s site) up.seen up.intent (advanced (link_at s site) up.seen up.intent (replaced steps (drop (up.seen - (link_at s site).seen) (link_at s site).chain))) last
     next_own = next_link (link_at s site) up.seen up.intent (replaced steps (drop (up.seen - (link_at s site).seen) (link_at s site).chain)) last may.fits passed_own

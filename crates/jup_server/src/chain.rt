@@ -1,4 +1,5 @@
-ghost use Rattle.std.specs.Prelude.{◌≡◌, ◌≤◌, ◌+◌, List, drop, length, take, unwrap_or, IfOk};
+ghost use Rattle.std.specs.Prelude.{◌≡◌, ◌≤◌, ◌+◌, List, drop, length, take, unwrap_or, IfOk, IsTrue};
+ghost use Rattle.ss_base.specs.declared.types.Size.{Size};
 ghost use Rattle.sheet_ops.specs.declared.operation.Effect.{Effect};
 ghost use Rattle.sheet_ops.specs.Chains.{sizes_past, PassesChain, EachChainFits};
 ghost use Rattle.sheet_ops.specs.Fits.{IntentFits};
@@ -6,14 +7,14 @@ ghost use Rattle.pair_transform.specs.Changes.{replaced};
 ghost use Rattle.jup_server.specs.Servers.{step_past};
 ghost use Rattle.jup_server.specs.Steps.{StepFits, PassesStep};
 
-use pair_transform::{changed_or, xform_changes};
+use pair_transform::{changed_or, leaves_both, note_change, xform_changes};
 use sheet_ops::{Effect, Intent, size_past};
 use ss_base::{Memory, Size};
 use std::alloc::Global;
 use std::collections::VecDeque;
 
 /// What an operation becomes past steps of a chain, and these past the operation; `None` stands for
-/// what stays as it is.
+/// what stays as it is, and so do steps behind the last one listed.
 #[derive(Debug, Drop)]
 pub(crate) struct Passed {
     pub(crate) own: Option<Intent>,
@@ -56,6 +57,17 @@ pub(crate) fn size_along(base: Size, chain: &VecDeque<Option<Effect>>, count: us
     size
 }
 
+/// Whether an operation and a step surely leave one another as they are, and the step brings no line.
+fn leaves_step(own: &Intent, step: &Option<Effect>) -> bool
+    ensures passes { IsTrue result → (size : Size) → IntentFits size own.now → StepFits size step.now → PassesStep size own.now step.now step.now own.now }
+    ensures size { IsTrue result → (size : Size) → step_past size step.now ≡ size }
+{
+    match step {
+        None => true,
+        Some(effect) => leaves_both(own, effect),
+    }
+}
+
 /// An operation past a step, and the step past the operation.
 fn pass_step(
     own: &Intent,
@@ -88,7 +100,8 @@ fn changed_step(change: Option<Effect>) -> Option<Option<Effect>>
 }
 
 /// An operation past the steps of a chain from a place on, and these past the operation. It takes a
-/// transform for each effect.
+/// comparison for each effect that the operation leaves and that leaves it, and a transform for each
+/// other one; where all do, it takes no memory.
 pub(crate) fn pass_chain(
     alloc: Global,
     chain: &VecDeque<Option<Effect>>,
@@ -102,15 +115,19 @@ pub(crate) fn pass_chain(
     requires own { IntentFits base own.now }
     requires chain { EachChainFits base (drop from chain.now.items) }
     ensures passes { IfOk result (λ r. PassesChain base own.now (drop from chain.now.items) (replaced r.steps.items (drop from chain.now.items)) (unwrap_or r.own own.now)) }
-    ensures many { IfOk result (λ r. length r.steps.items + from ≡ length chain.now.items) }
+    ensures many { IfOk result (λ r. length r.steps.items + from ≤ length chain.now.items) }
 {
     let mut steps = VecDeque::new(alloc);
     let mut last = None;
     let mut size = base;
     for i in 0..chain.len() - from {
         let step = &chain[from + i];
-        let (own_change, step_change) = pass_step(changed_or(&last, own), step, size)?;
-        steps.push_back(step_change)?;
+        let before = changed_or(&last, own);
+        if leaves_step(before, step) {
+            continue;
+        }
+        let (own_change, step_change) = pass_step(before, step, size)?;
+        note_change(&mut steps, i, step_change)?;
         last = own_change.or(last);
         size = step_past(size, step);
     }

@@ -83,7 +83,7 @@ impl Link {
         requires size { size ≡ seen_size self.now seen }
         requires own { IntentFits size own.now }
         ensures passes { IfOk result (λ r. PassesChain size own.now (drop (seen - self.now.seen) self.now.chain) (replaced r.steps.items (drop (seen - self.now.seen) self.now.chain)) (unwrap_or r.own own.now)) }
-        ensures many { IfOk result (λ r. length r.steps.items + (seen - self.now.seen) ≡ length self.now.chain) }
+        ensures many { IfOk result (λ r. length r.steps.items + (seen - self.now.seen) ≤ length self.now.chain) }
     {
         pass_chain(alloc, &self.chain, (seen - self.seen) as usize, own, size)
     }

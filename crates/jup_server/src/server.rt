@@ -143,7 +143,8 @@ impl Server {
     }
 
     /// Takes an operation of a site, and gives its effect on the sheet. A refused call leaves the server.
-    /// It takes the time of the effects that the operation's author hadn't seen, and of one copy of the
+    /// It takes, for each effect that the operation's author hadn't seen, a comparison where the two leave
+    /// one another, as writes of other cells do, and else a transform, and the time of one copy of the
     /// effect per site; of each effect that its author has seen since, it takes a constant time once. In
     /// order, `NoSite` comes exactly for a site that the server hasn't, `Spent` exactly where 1,000
     /// operations of the site were taken, `BadSeen` exactly where what it had seen is below what the

@@ -10,7 +10,9 @@ use Rattle.sheet_ops.specs.declared.operation.Effect.{Effect}
 use Rattle.sheet_ops.specs.declared.operation.Effect.TheVariants as effect
 use Rattle.sheet_ops.specs.declared.operation.Intent.{Intent}
 use Rattle.sheet_ops.specs.declared.operation.Intent.TheVariants as intent
+use Rattle.sheet_ops.specs.Chains.{size_past}
 use Rattle.sheet_ops.specs.Fits.{ContentFits, PutsFit, writes_cell}
+use Rattle.sheet_ops.specs.Naming.{effect_of_intent}
 use Rattle.sheet_ops.specs.Effects.{uncovered}
 use Rattle.sheet_ops.specs.Maps.{LineMap, unmoved, put_moved, intent_moved}
 use Rattle.sheet_ops.specs.Transforms.{own_past, other_past}
@@ -48,6 +50,16 @@ pub own_left : (c : Intent) (e : Effect) → (((ps : List Put) × (e ≡ effect.
 own_left c e (inl (ps, is)) = sym (intent_unmoved c) ∙ ap (own_past c) (sym is)
 own_left c e (inr (inl (p, is))) = sym (intent_unmoved c) ∙ ap (own_past c) (sym is)
 own_left c e (inr (inr (p, is))) = sym (intent_unmoved c) ∙ ap (own_past c) (sym is)
+
+-- it brings no line either, and no more does a deletion
+pub effect_brings_none : (e : Effect) → (((ps : List Put) × (e ≡ effect.Write ps)) ⊎ (((p : ℕ) × (e ≡ effect.DelRow p)) ⊎ ((p : ℕ) × (e ≡ effect.DelCol p)))) → (size : Size) → size_past size e ≡ size
+effect_brings_none e (inl (ps, is)) size = ap (size_past size) is
+effect_brings_none e (inr (inl (p, is))) size = ap (size_past size) is
+effect_brings_none e (inr (inr (p, is))) size = ap (size_past size) is
+
+pub deletion_brings_none : (c : Intent) → (((p : ℕ) × (c ≡ intent.DelRow p)) ⊎ ((p : ℕ) × (c ≡ intent.DelCol p))) → (size : Size) → size_past size (effect_of_intent c) ≡ size
+deletion_brings_none c (inl (p, is)) size = ap (λ (d : Intent). size_past size (effect_of_intent d)) is
+deletion_brings_none c (inr (p, is)) size = ap (λ (d : Intent). size_past size (effect_of_intent d)) is
 
 -- a deletion leaves every effect
 row_deleted : (size : Size) (p : ℕ) (e : Effect) → e ≡ other_past size (intent.DelRow p) e

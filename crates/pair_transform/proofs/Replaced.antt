@@ -3,7 +3,7 @@ use Rattle.std.proofs.Common.{◌≡◌, ℕ, zero, suc, ◌+◌, ◌<◌, ◌�
 use Rattle.std.specs.Prelude.{unwrap_or, slice_set, slice_index_or, MatchOption}
 use Rattle.std.specs.Option.{option_flatten, option_or}
 use Rattle.std.proofs.lemmas.List.{get_or-drop}
-use Rattle.pair_transform.specs.Changes.{replaced}
+use Rattle.pair_transform.specs.Changes.{replaced, MakeSame}
 
 pub replaced_none : {A : Type 0} (xs : List A) → replaced [] xs ≡ xs
 replaced_none xs = refl
@@ -21,11 +21,30 @@ replaced_push (d ∷ cs) [] c x h = absurd (omega arith)
 replaced_push {A} (d ∷ cs) (y ∷ xs) c x h = ap (λ (zs : List A). unwrap_or d y ∷ zs) (replaced_push cs xs c x (omega arith))
 
 -- what stands behind the changes stays
-pub replaced_behind : {A : Type 0} (cs : List (Option A)) (xs ys : List A) → length cs ≡ length xs → replaced cs (xs ++ ys) ≡ replaced cs xs ++ ys
-replaced_behind [] [] ys h = refl
-replaced_behind [] (x ∷ xs) ys h = absurd (omega arith)
+pub replaced_behind : {A : Type 0} (cs : List (Option A)) (xs ys : List A) → length cs ≤ length xs → replaced cs (xs ++ ys) ≡ replaced cs xs ++ ys
+replaced_behind [] xs ys h = refl
 replaced_behind (c ∷ cs) [] ys h = absurd (omega arith)
 replaced_behind {A} (c ∷ cs) (x ∷ xs) ys h = ap (λ (zs : List A). unwrap_or c x ∷ zs) (replaced_behind cs xs ys (omega arith))
+
+-- to note that an element stays changes nothing
+pub replaced_stays : {A : Type 0} (cs : List (Option A)) (xs : List A) → length cs < length xs → replaced (cs ++ None ∷ []) xs ≡ replaced cs xs
+replaced_stays [] [] h = refl
+replaced_stays [] (x ∷ xs) h = refl
+replaced_stays (c ∷ cs) [] h = refl
+replaced_stays {A} (c ∷ cs) (x ∷ xs) h = ap (λ (zs : List A). unwrap_or c x ∷ zs) (replaced_stays cs xs (omega arith))
+
+pub one_stays : {A : Type 0} (cs : List (Option A)) (count : ℕ) (before : List (Option A)) → length cs < count → MakeSame count cs before → (more : List (Option A)) → more ≡ cs ++ None ∷ [] → MakeSame count more before
+one_stays {A} cs count before few same more is xs many = ap (λ (ds : List (Option A)). replaced ds xs) is ∙ (replaced_stays cs xs (omega (arith, few, many)) ∙ same xs many)
+
+-- an element noted behind those of which something is noted
+pub none_noted : {A : Type 0} (cs : List (Option A)) (count : ℕ) → length cs ≤ count → (c : Option A) → c ≡ None → (xs : List A) (x : A) → length xs ≡ count → replaced cs (xs ++ x ∷ []) ≡ replaced cs xs ++ unwrap_or c x ∷ []
+none_noted {A} cs count few c is xs x many = replaced_behind cs xs (x ∷ []) (omega (arith, few, many)) ∙ ap (λ (d : Option A). replaced cs xs ++ unwrap_or d x ∷ []) (sym is)
+
+pub some_noted : {A : Type 0} (cs ds : List (Option A)) (count : ℕ) → MakeSame count ds cs → length ds ≡ count → (value : A) (c : Option A) → c ≡ Some value → (more : List (Option A)) → more ≡ ds ++ Some value ∷ [] →
+    (xs : List A) (x : A) → length xs ≡ count → replaced more (xs ++ x ∷ []) ≡ replaced cs xs ++ unwrap_or c x ∷ []
+some_noted {A} cs ds count same many value c is more pushed xs x h =
+    ap (λ (fs : List (Option A)). replaced fs (xs ++ x ∷ [])) pushed
+    ∙ (replaced_push ds xs (Some value) x (many ∙ sym h) ∙ (ap (λ (ys : List A). ys ++ value ∷ []) (same xs h) ∙ ap (λ (d : Option A). replaced cs xs ++ unwrap_or d x ∷ []) (sym is)))
 
 -- the change at a place made after those before it
 pub replaced_still : {A : Type 0} (cs : List (Option A)) (xs : List A) (i : ℕ) → i < length cs → length cs ≤ length xs → slice_index_or cs i None ≡ None → replaced (take (suc i) cs) xs ≡ replaced (take i cs) xs

@@ -1,4 +1,4 @@
-ghost use Rattle.std.specs.Prelude.{◌≡◌, ◌≤◌, ◌<◌, length, slice_set, unwrap_or, MatchOption, IfOk, IsTrue};
+ghost use Rattle.std.specs.Prelude.{◌≡◌, ◌≤◌, ◌<◌, ◌+◌, ◌++◌, List, [], ◌∷◌, length, slice_set, unwrap_or, MatchOption, IfOk, OnOk, IsTrue};
 ghost use Rattle.ss_base.specs.declared.types.Size.{Size};
 ghost use Rattle.sheet_ops.specs.declared.operation.Intent.{Intent};
 ghost use Rattle.sheet_ops.specs.Chains.{size_past};
@@ -8,7 +8,7 @@ ghost use Rattle.sheet_ops.specs.Naming.{effect_of_intent};
 ghost use Rattle.sheet_ops.specs.Squares.{Converges};
 ghost use Rattle.sheet_ops.specs.Transforms.{own_past, other_past};
 ghost use Rattle.sheet_ops.specs.declared.operation.Intent.TheVariants as intent;
-ghost use Rattle.pair_transform.specs.Changes.{replaced};
+ghost use Rattle.pair_transform.specs.Changes.{replaced, MakeSame};
 
 use crate::other::{other_past, writes_cell};
 use crate::own::own_past;
@@ -82,9 +82,23 @@ fn change_of_other(
     Ok(Some(other_past(own, after, other, size)?))
 }
 
+/// Whether an own operation and another's effect surely leave one another as they are, and bring no line:
+/// deletions and writes do beside one another where no cell is written by both. Then
+/// [`xform_changes`] would find nothing to change on any sheet, and this tells it without memory, in
+/// constant time; of two writes it takes the product of their cells.
+pub fn leaves_both(own: &Intent, other: &Effect) -> bool
+    ensures own { IsTrue result → own.now ≡ own_past own.now other.now }
+    ensures other { IsTrue result → (size : Size) → other.now ≡ other_past size own.now other.now }
+    ensures converges { IsTrue result → (size : Size) → IntentFits size own.now → EffectFits size other.now → Converges size own.now other.now own.now other.now }
+    ensures sizes { IsTrue result → (size : Size) → (size_past size (effect_of_intent own.now) ≡ size) × (size_past size other.now ≡ size) }
+{
+    leaves_own(other) && leaves_other(own, other)
+}
+
 // An effect that moves no position leaves every own operation.
 fn leaves_own(other: &Effect) -> bool
-    ensures { IsTrue result → (own : Intent) → own ≡ own_past own other.now }
+    ensures own { IsTrue result → (own : Intent) → own ≡ own_past own other.now }
+    ensures size { IsTrue result → (size : Size) → size_past size other.now ≡ size }
 {
     match other {
         Effect::Write(_) | Effect::DelRow(_) | Effect::DelCol(_) => true,
@@ -94,7 +108,8 @@ fn leaves_own(other: &Effect) -> bool
 
 // A deletion leaves every effect, and a write every one that writes none of its cells.
 fn leaves_other(own: &Intent, other: &Effect) -> bool
-    ensures { IsTrue result → (size : Size) → other.now ≡ other_past size own.now other.now }
+    ensures other { IsTrue result → (size : Size) → other.now ≡ other_past size own.now other.now }
+    ensures size { IsTrue result → (size : Size) → size_past size (effect_of_intent own.now) ≡ size }
 {
     match own {
         Intent::Write(puts) => leaves_puts(puts.as_slice(), other),
@@ -117,6 +132,41 @@ fn write_some(own: &[Put], puts: &[Put]) -> bool
     ensures { result ≡ list_any (λ put. writes_cell own.now put) puts.now }
 {
     puts.iter().any(|put| writes_cell(own, put))
+}
+
+/// Notes what the element at an index becomes, `None` where it stays, behind what is noted of those
+/// before it. It takes memory only where something changes, and then room for all up to it. A refused
+/// call may leave further elements noted as staying.
+pub fn note_change<T: Drop>(
+    changes: &mut VecDeque<Option<T>>,
+    at: usize,
+    change: Option<T>,
+) -> Result<(), Memory>
+    requires { length changes.old.items ≤ at }
+    ensures noted { OnOk result ((xs : List T) (x : T) → length xs ≡ at → replaced changes.new.items (xs ++ x ∷ []) ≡ replaced changes.old.items xs ++ unwrap_or change x ∷ []) }
+    ensures few { OnOk result (length changes.new.items ≤ at + 1) }
+{
+    match change {
+        None => Ok(()),
+        Some(value) => {
+            note_stays(changes, at)?;
+            changes.push_back(Some(value))?;
+            Ok(())
+        }
+    }
+}
+
+// Notes of the elements up to an index that they stay, where nothing is noted of them.
+fn note_stays<T: Drop>(changes: &mut VecDeque<Option<T>>, end: usize) -> Result<(), Memory>
+    requires { length changes.old.items ≤ end }
+    ensures same { OnOk result (MakeSame end changes.new.items changes.old.items) }
+    ensures many { OnOk result (length changes.new.items ≡ end) }
+{
+    let missing = end - changes.len();
+    for _ in 0..missing {
+        changes.push_back(None)?;
+    }
+    Ok(())
 }
 
 /// Replaces elements from the first one on, each where its change isn't `None`. It takes no memory.

@@ -18,7 +18,7 @@ mod sorts;
 
 use crate::other::other_past;
 use crate::own::own_past;
-pub use changes::{changed_or, replace_front, xform_changes};
+pub use changes::{changed_or, leaves_both, note_change, replace_front, xform_changes};
 use sheet_ops::{Effect, Intent};
 use ss_base::{Memory, Size};
 

@@ -12,7 +12,7 @@ invariant-loop-i l = record {
   passed : PassesOwn l.fn.base l.effect (reverse (take l.i l.pending.items)) (reverse (replaced l.own.items (take l.i l.pending.items))) (unwrap_or l.other l.effect);
   own_fits : EachFitsAfter (size_past l.fn.base l.effect) (reverse (replaced l.own.items (take l.i l.pending.items)));
   meets : size_after (size_past l.fn.base l.effect) (reverse (replaced l.own.items (take l.i l.pending.items))) ≡ size_past l.size (unwrap_or l.other l.effect);
-  many : length l.own.items ≡ l.i;
+  few : length l.own.items ≤ l.i;
   rows : l.size.rows ≤ l.fn.base.rows + l.i;
   cols : l.size.cols ≤ l.fn.base.cols + l.i;
 }

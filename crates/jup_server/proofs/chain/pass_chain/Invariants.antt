@@ -1,4 +1,4 @@
-use Rattle.std.proofs.Common.{◌≡◌, take, drop, length}
+use Rattle.std.proofs.Common.{◌≡◌, ◌≤◌, take, drop, length}
 use Rattle.std.specs.Prelude.{unwrap_or}
 use Rattle.sheet_ops.specs.Chains.{sizes_past, PassesChain}
 use Rattle.sheet_ops.specs.Fits.{IntentFits}
@@ -10,5 +10,5 @@ invariant-loop-i l = record {
   sized : l.size ≡ sizes_past l.fn.base (take l.i (drop l.from l.chain.items));
   fits : IntentFits l.size (unwrap_or l.last l.own);
   passed : PassesChain l.fn.base l.own (take l.i (drop l.from l.chain.items)) (replaced l.steps.items (take l.i (drop l.from l.chain.items))) (unwrap_or l.last l.own);
-  many : length l.steps.items ≡ l.i;
+  few : length l.steps.items ≤ l.i;
 }
