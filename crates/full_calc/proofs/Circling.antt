@@ -1,6 +1,6 @@
 -- What the walk marks as circular is so.
-use Rattle.std.proofs.Common.{◌≡◌, ℕ, zero, suc, ◌+◌, ◌<◌, ◌≤◌, Bool, true, false, cond, List, [], ◌∷◌, length, refl, ap, sym, ◌∙◌, subst, arith, inl, inr, Some, None, Option}
-use Rattle.std.specs.Prelude.{◌⊎◌, ◌&&◌, not, unwrap_or, slice_get, slice_index_or}
+use Rattle.std.proofs.Common.{◌≡◌, ℕ, zero, suc, ◌+◌, ◌<◌, Bool, true, false, List, [], ◌∷◌, length, refl, ap, sym, ◌∙◌, subst, arith, inl, inr, Some, None, Option}
+use Rattle.std.specs.Prelude.{◌⊎◌, unwrap_or, slice_get}
 use Rattle.std.specs.List.{list_any, filter_map, cons_option}
 use Rattle.cell_walk.specs.declared.walking.Colour.{Colour}
 use Rattle.cell_walk.specs.declared.walking.Colour.TheVariants.{Ordered}
@@ -9,15 +9,13 @@ use Rattle.cell_walk.specs.Walks.{Orderly}
 use Rattle.cell_walk.specs.Walks.{IsIn}
 use Rattle.std.specs.BTreeMap.{BTreeMap}
 use Rattle.marked_lines.specs.Marks.{places_from, visible_places, visible_before}
-use Rattle.sheet_ops.specs.declared.content.Content.{Content}
-use Rattle.sheet_ops.specs.declared.content.Content.TheVariants as content
 use Rattle.sheet_ops.specs.Lines.{marks}
 use Rattle.sheet_ops.specs.Fits.{IsWellFormed}
 use Rattle.sheet_ops.specs.Identity.{IdSheet}
 use Rattle.sheet_ops.specs.Placed.{PlacedSheet, placed}
 use Rattle.sheet_graph.specs.declared.graph.Node.{Node}
 use Rattle.sheet_graph.specs.Areas.{number_in}
-use Rattle.sheet_graph.specs.Graphs.{is_formula_content, content_at, content_seen, IsGraph}
+use Rattle.sheet_graph.specs.Graphs.{is_formula_content, content_at, IsGraph}
 use Rattle.full_calc.specs.Precedents.{CellId, is_seen}
 use Rattle.full_calc.specs.Circular.{is_formula_cell, formula_cells, precedents, is_circular}
 use Rattle.sheet_graph.specs.Graphs.{mentions_in}

@@ -1,6 +1,6 @@
 -- How many formulas are evaluated.
-use Rattle.std.proofs.Common.{◌≡◌, ◌≢◌, ℕ, zero, suc, ◌+◌, ◌<◌, ◌≤◌, Bool, true, false, List, [], ◌∷◌, length, refl, ap, sym, ◌∙◌, subst, arith, inl, inr, Some, None, Option}
-use Rattle.std.specs.Prelude.{◌⊎◌, not, filter, reverse, slice_get}
+use Rattle.std.proofs.Common.{◌≡◌, ℕ, suc, ◌+◌, ◌<◌, ◌≤◌, List, [], ◌∷◌, length, refl, ap, sym, ◌∙◌, subst, arith, inl, inr, Some}
+use Rattle.std.specs.Prelude.{◌⊎◌, not, reverse}
 use Rattle.std.specs.BTreeMap.{BTreeMap}
 use Rattle.std.proofs.lemmas.List.{length-reverse}
 use Rattle.sheet_ops.specs.Fits.{IsWellFormed}
@@ -14,7 +14,6 @@ use Rattle.sheet_graph.specs.declared.graph.Node.{Node}
 use Rattle.sheet_graph.specs.Areas.{number_in}
 use Rattle.sheet_graph.specs.Graphs.{mentions_in, IsGraph}
 use Rattle.sheet_graph.proofs.Filled.{filter_in, get_there}
-use Rattle.full_calc.specs.Precedents.{CellId}
 use Rattle.full_calc.specs.Circular.{formula_cells, is_circular, acyclic_cells}
 use Rattle.full_calc.proofs.Sheets.{formula_in}
 use Rattle.full_calc.proofs.Numbering.{number_of}

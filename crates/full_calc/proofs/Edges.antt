@@ -1,5 +1,5 @@
 -- Small sheets on which the definitions are seen to say what they are to say.
-use Rattle.std.proofs.Common.{◌≡◌, ℕ, ◌+◌, Bool, true, false, List, [], ◌∷◌, pos, refl}
+use Rattle.std.proofs.Common.{◌≡◌, ℕ, ◌+◌, true, false, List, [], ◌∷◌, pos, refl}
 use Rattle.ss_base.specs.declared.types.CalcErr.TheVariants as fault
 use Rattle.formula_tree.specs.declared.functions.Fun.TheVariants as fun
 use Rattle.formula_tree.specs.Tree.{Tree, num, cell, call, none, more}

@@ -1,5 +1,5 @@
 -- The numbers that the areas of a formula hold are those of the positions that it mentions.
-use Rattle.std.proofs.Common.{◌≡◌, ℕ, zero, suc, ◌+◌, Bool, true, false, cond, List, [], ◌∷◌, ◌++◌, length, map, refl, ap, sym, ◌∙◌, arith, append_assoc, Some, None, Option}
+use Rattle.std.proofs.Common.{◌≡◌, ℕ, zero, suc, ◌+◌, Bool, true, false, cond, List, [], ◌∷◌, ◌++◌, map, refl, ap, sym, ◌∙◌, arith, append_assoc, Some, None, Option}
 use Rattle.std.specs.Prelude.{◌&&◌, ◌-◌, flat_map, filter_map, not, slice_index_or}
 use Rattle.std.specs.List.{cons_option}
 use Rattle.formula_tree.specs.Tree as tree
@@ -10,7 +10,7 @@ use Rattle.marked_lines.specs.Marks.{visible_before, span_of}
 use Rattle.sheet_graph.specs.declared.areas.Area.{Area}
 use Rattle.sheet_graph.specs.Areas.{indexes_from, in_row, in_rows, in_area, area_at, area_over, areas_in, areas_in_all}
 use Rattle.sheet_graph.proofs.Spans.{span_lines, lines_of_span}
-use Rattle.full_calc.specs.Precedents.{is_seen, places_between}
+use Rattle.full_calc.specs.Precedents.{places_between}
 use Rattle.full_calc.specs.Positions.{places_in, places_in_all}
 
 module _ {A B : Type 0} (g : A → Option B) where

@@ -2,6 +2,7 @@ pub mod Alike
 pub mod Circles
 pub mod Circling
 pub mod RowConstants
+pub mod Counted
 pub mod Counts
 pub mod Edges
 pub mod Evaluating

@@ -2,17 +2,14 @@
 use Rattle.std.proofs.Common.{◌≡◌, ℕ, zero, suc, ◌+◌, ◌<◌, ◌≤◌, Bool, true, false, cond, List, [], ◌∷◌, length, map, refl, ap, sym, ◌∙◌, subst, arith, Some, None, Option}
 use Rattle.std.specs.Prelude.{IfSome, unwrap_or, ◌&&◌, ◌-◌, not, nat_le, slice_index, slice_index_or, filter}
 use Rattle.std.proofs.lemmas.List.{length-map}
-use Rattle.ss_base.specs.declared.types.Size.{Size}
 use Rattle.ss_base.specs.declared.types.Spot.{Spot}
-use Rattle.ss_base.specs.declared.types.Span.{Span}
 use Rattle.sheet_value.specs.declared.value.Value.{Value}
 use Rattle.sheet_value.specs.declared.value.Value.TheVariants as value
-use Rattle.sheet_value.specs.Environment.{cell_value, range_value, size_of_lines}
+use Rattle.sheet_value.specs.Environment.{cell_value, size_of_lines}
 use Rattle.sheet_value.specs.Tables.{Table, value_at, filled}
 use Rattle.marked_lines.specs.Marks.{visible_before, span_of}
 use Rattle.marked_lines.proofs.Indexes.{span_order}
 use Rattle.marked_lines.specs.Marks.{visible_of}
-use Rattle.sheet_ops.specs.Placed.{PlacedSheet}
 use Rattle.sheet_graph.specs.Areas.{indexes_from}
 use Rattle.sheet_graph.proofs.Spans.{span_lines, lines_of_span}
 use Rattle.full_calc.specs.Precedents.{is_seen, places_between}
@@ -33,23 +30,23 @@ line_hidden marks p h = by_mark (slice_index_or marks p true) h
     by_mark true e = refl
     by_mark false e = absurd (let q : None ≡ Some (visible_before marks p) = e in cc)
 
-module _ (P : PlacedSheet) (T : Table) where
-  pub cell_there : (s : Spot) (r c : ℕ) → Some r ≡ visible_of P.rows s.row → Some c ≡ visible_of P.cols s.col → cell_value (look_environment P T) s ≡ Some (value_at T r c)
+module _ (rows cols : List Bool) (T : Table) where
+  pub cell_there : (s : Spot) (r c : ℕ) → Some r ≡ visible_of rows s.row → Some c ≡ visible_of cols s.col → cell_value (look_environment rows cols T) s ≡ Some (value_at T r c)
   cell_there s r c h k =
-      let a = line_seen P.rows s.row r h in
-      let b = line_seen P.cols s.col c k in
+      let a = line_seen rows s.row r h in
+      let b = line_seen cols s.col c k in
       rw (a.0, b.0) (λ i. Some (value_at T (a.1 i) (b.1 i)))
 
-  pub row_lost : (s : Spot) → None ≡ visible_of P.rows s.row → cell_value (look_environment P T) s ≡ None
-  row_lost s h = rw (line_hidden P.rows s.row h) refl
+  pub row_lost : (s : Spot) → None ≡ visible_of rows s.row → cell_value (look_environment rows cols T) s ≡ None
+  row_lost s h = rw (line_hidden rows s.row h) refl
 
-  pub col_lost : (s : Spot) → None ≡ visible_of P.cols s.col → cell_value (look_environment P T) s ≡ None
-  col_lost s h = by_row (is_seen P.rows s.row)
+  pub col_lost : (s : Spot) → None ≡ visible_of cols s.col → cell_value (look_environment rows cols T) s ≡ None
+  col_lost s h = by_row (is_seen rows s.row)
     where
-      lost : is_seen P.cols s.col ≡ false
-      lost = line_hidden P.cols s.col h
+      lost : is_seen cols s.col ≡ false
+      lost = line_hidden cols s.col h
 
-      by_row : (b : Bool) → Rattle.std.specs.Prelude.option_map (λ (at : ℕ × ℕ). value_at T (visible_before P.rows at.0) (visible_before P.cols at.1)) (cond (b && is_seen P.cols s.col) (Some (s.row, s.col)) None) ≡ None
+      by_row : (b : Bool) → Rattle.std.specs.Prelude.option_map (λ (at : ℕ × ℕ). value_at T (visible_before rows at.0) (visible_before cols at.1)) (cond (b && is_seen cols s.col) (Some (s.row, s.col)) None) ≡ None
       by_row true = rw lost refl
       by_row false = refl
 

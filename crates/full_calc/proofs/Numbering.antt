@@ -1,6 +1,6 @@
 -- The number of a cell by identity.
-use Rattle.std.proofs.Common.{◌≡◌, ℕ, zero, suc, ◌+◌, ◌<◌, ◌≤◌, Bool, true, false, cond, List, [], ◌∷◌, ◌++◌, length, map, refl, ap, sym, ◌∙◌, subst, arith, inl, inr, Some, None, Option}
-use Rattle.std.specs.Prelude.{◌&&◌, ◌⊎◌, not, nat_le, flat_map, filter, filter_map, slice_index_or}
+use Rattle.std.proofs.Common.{◌≡◌, ℕ, zero, suc, ◌+◌, ◌<◌, Bool, true, false, cond, List, [], ◌∷◌, ◌++◌, length, map, refl, ap, sym, ◌∙◌, subst, arith, None, Option}
+use Rattle.std.specs.Prelude.{◌&&◌, not, nat_le, flat_map, filter, filter_map, slice_index_or}
 use Rattle.std.specs.List.{cons_option, AllByRecursion}
 use Rattle.formula_tree.specs.Tree as tree
 use Rattle.formula_tree.specs.Tree.{Tree, Trees, rename_tree}

@@ -1,6 +1,6 @@
 -- What a walk has to show of a sheet, so that its values are those of full evaluation and its circular cells the circular ones.
-use Rattle.std.proofs.Common.{◌≡◌, ℕ, zero, suc, ◌+◌, Bool, true, false, cond, List, [], ◌∷◌, length, map, Option, None, Some, refl, ap, sym, ◌∙◌, subst, arith, inl, inr}
-use Rattle.std.specs.Prelude.{◌&&◌, ◌||◌, ◌⊎◌}
+use Rattle.std.proofs.Common.{◌≡◌, ℕ, suc, ◌+◌, Bool, true, false, cond, List, [], ◌∷◌, length, map, Option, None, Some, refl, ap, sym, ◌∙◌, subst, arith, inl, inr}
+use Rattle.std.specs.Prelude.{◌||◌, ◌⊎◌}
 use Rattle.std.specs.List.{list_any, filter_map, cons_option, AllByRecursion}
 use Rattle.ss_base.specs.declared.types.CalcErr.TheVariants as fault
 use Rattle.sheet_value.specs.declared.value.Value.{Value}
@@ -8,7 +8,7 @@ use Rattle.sheet_value.specs.declared.value.Value.TheVariants as value
 use Rattle.sheet_ops.specs.Identity.{IdSheet}
 use Rattle.cell_walk.specs.Walks.{IsIn}
 use Rattle.full_calc.specs.Precedents.{CellId, is_live_cell}
-use Rattle.full_calc.specs.Circular.{is_formula, is_formula_cell, formula_cells, precedents, is_circular_at, is_circular}
+use Rattle.full_calc.specs.Circular.{is_formula, is_formula_cell, formula_cells, precedents, is_circular}
 use Rattle.full_calc.specs.Values.{value_at_depth, value_of}
 use Rattle.full_calc.proofs.Circles as circles
 use Rattle.full_calc.proofs.Circles.{for_each, at_each, none_of, and_false, first_of_and, last_of_and}

@@ -1,18 +1,18 @@
 -- What is said of a sheet by identity, by its positions.
-use Rattle.std.proofs.Common.{◌≡◌, ℕ, zero, suc, ◌+◌, ◌<◌, ◌≤◌, Bool, true, false, cond, List, [], ◌∷◌, ◌++◌, length, map, refl, ap, sym, ◌∙◌, subst, arith, inl, inr}
-use Rattle.std.specs.Prelude.{◌&&◌, ◌⊎◌, flat_map, slice_index_or}
+use Rattle.std.proofs.Common.{◌≡◌, ℕ, zero, suc, ◌<◌, true, false, List, [], ◌∷◌, ◌++◌, length, map, refl, ap, sym, ◌∙◌, arith, inl, inr}
+use Rattle.std.specs.Prelude.{◌⊎◌, flat_map, slice_index_or}
 use Rattle.formula_tree.specs.Tree as tree
 use Rattle.formula_tree.specs.Tree.{Tree, Trees, rename_tree, rename_trees}
 use Rattle.sheet_value.specs.declared.value.Value.{Value}
 use Rattle.sheet_ops.specs.declared.content.Content.{Content}
 use Rattle.sheet_ops.specs.declared.content.Content.TheVariants as content
 use Rattle.sheet_ops.specs.LineIds.{LineId}
-use Rattle.sheet_ops.specs.Lines.{AxisLine, Axis, rec_place, slot_place, rec_at, marks, no_line}
+use Rattle.sheet_ops.specs.Lines.{AxisLine, slot_place, rec_at, marks, no_line}
 use Rattle.sheet_ops.specs.Identity.{IdCell, IdRange, IdContent, blank, number, text, formula, IdSheet}
 use Rattle.sheet_ops.specs.Naming.{locate_cell, locate_range, locate_content}
 use Rattle.sheet_ops.specs.Placed.{placed, cell_at}
 use Rattle.sheet_ops.proofs.Ids.{true_or_false}
-use Rattle.full_calc.specs.Precedents.{CellId, is_live, is_live_cell, seen_between, mentioned, mentioned_all, is_seen, places_between}
+use Rattle.full_calc.specs.Precedents.{CellId, is_live, mentioned, mentioned_all, places_between}
 use Rattle.full_calc.specs.Positions.{places_in, places_in_all, result_at}
 use Rattle.full_calc.proofs.Seen.{cell_of, live_seen, live_rec, seen_records}
 use Rattle.full_calc.proofs.Sheets.{step_of}

@@ -1,24 +1,21 @@
 -- The graph of a sheet by positions is that of its cells by identity.
-use Rattle.std.proofs.Common.{◌≡◌, ℕ, zero, suc, ◌+◌, ◌<◌, Bool, true, false, cond, List, [], ◌∷◌, length, refl, ap, sym, ◌∙◌, subst, arith, Some, None, Option}
-use Rattle.std.specs.Prelude.{◌&&◌, not, unwrap_or, slice_get, slice_index_or, flat_map, filter_map}
+use Rattle.std.proofs.Common.{◌≡◌, ℕ, zero, suc, ◌+◌, Bool, true, false, cond, List, [], ◌∷◌, refl, ap, sym, ◌∙◌, subst, arith, Some, None, Option}
+use Rattle.std.specs.Prelude.{◌&&◌, unwrap_or, slice_get, flat_map, filter_map}
 use Rattle.std.specs.BTreeMap.{BTreeMap}
 use Rattle.ss_base.specs.declared.types.Spot.{Spot}
 use Rattle.ss_base.specs.declared.types.Span.{Span}
 use Rattle.formula_tree.specs.Tree.{Tree, rename_tree}
 use Rattle.marked_lines.specs.Marks.{places_from, visible_places, visible_before}
-use Rattle.sheet_ops.specs.declared.content.Content.{Content}
 use Rattle.sheet_ops.specs.declared.content.Content.TheVariants as content
-use Rattle.sheet_ops.specs.LineIds.{LineId}
-use Rattle.sheet_ops.specs.Lines.{rec_place, rec_at, marks}
+use Rattle.sheet_ops.specs.Lines.{rec_place, marks}
 use Rattle.sheet_ops.specs.Fits.{IsWellFormed}
 use Rattle.sheet_ops.specs.Identity.{IdContent, blank, number, text, formula, IdSheet}
 use Rattle.sheet_ops.specs.Naming.{locate_cell, locate_range, locate_content}
-use Rattle.sheet_ops.specs.Placed.{PlacedSheet, placed, cell_at}
+use Rattle.sheet_ops.specs.Placed.{placed}
 use Rattle.sheet_ops.proofs.Ids.{both_true}
 use Rattle.sheet_graph.specs.declared.graph.Node.{Node}
-use Rattle.sheet_graph.specs.declared.areas.Area.{Area}
 use Rattle.sheet_graph.specs.Areas.{number_in, in_area, areas_in}
-use Rattle.sheet_graph.specs.Graphs.{areas_of, is_formula_content, content_at, content_seen, IsNode, IsGraph}
+use Rattle.sheet_graph.specs.Graphs.{is_formula_content, content_at, content_seen, IsGraph}
 use Rattle.sheet_graph.proofs.Lists.{areas_found}
 use Rattle.full_calc.specs.Precedents.{CellId, is_live, is_live_cell, mentioned, is_seen}
 use Rattle.full_calc.specs.Shown.{cell_shown}

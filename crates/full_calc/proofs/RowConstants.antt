@@ -1,10 +1,8 @@
 -- Constants put into their places one after another.
-use Rattle.std.proofs.Common.{◌≡◌, ◌≢◌, ℕ, zero, suc, ◌+◌, ◌<◌, ◌≤◌, List, [], ◌∷◌, ◌++◌, length, take, refl, ap, sym, ◌∙◌, subst, arith, inl, inr, Some, None, Option}
+use Rattle.std.proofs.Common.{◌≡◌, ◌≢◌, ℕ, ◌+◌, ◌<◌, ◌≤◌, List, [], ◌∷◌, ◌++◌, length, take, refl, ap, sym, ◌∙◌, subst, arith, inl, inr, Some, None, Option}
 use Rattle.std.specs.Prelude.{◌⊎◌, slice_get, slice_index_or}
 use Rattle.std.proofs.lemmas.List.{take_more, take_all}
-use Rattle.ss_base.specs.declared.types.Size.{Size}
 use Rattle.marked_lines.specs.Marks.{visible_places}
-use Rattle.sheet_value.specs.declared.value.Value.{Value}
 use Rattle.sheet_value.specs.declared.value.Value.TheVariants as value
 use Rattle.sheet_value.specs.Tables.{Table, empty_table, value_at, with_value}
 use Rattle.sheet_ops.specs.declared.content.Content.TheVariants as content
@@ -18,7 +16,7 @@ use Rattle.sheet_graph.proofs.Building.{get_past, in_push}
 use Rattle.full_calc.specs.Shown.{IsShaped}
 use Rattle.full_calc.specs.Evaluated.{constant_of}
 use Rattle.full_calc.specs.Computed.{HasConstants}
-use Rattle.full_calc.proofs.Tables.{shaped_empty, empty_value, shaped_put, value_put, value_other}
+use Rattle.full_calc.proofs.Tables.{shaped_empty, empty_value, value_put, value_other}
 
 module _ (P : PlacedSheet) where
   -- what is shown has a constant, nothing else has

@@ -1,7 +1,7 @@
 -- The values that are computed one after another are those of the cells.
-use Rattle.std.proofs.Common.{◌≡◌, ◌≢◌, ℕ, zero, suc, ◌+◌, ◌<◌, ◌≤◌, Bool, true, false, cond, List, [], ◌∷◌, ◌++◌, length, map, refl, ap, sym, ◌∙◌, subst, arith, inl, inr, Some, None, Option}
-use Rattle.std.specs.Prelude.{◌⊎◌, ◌&&◌, flat_map, filter_map, reverse, slice_get, slice_index_or, unwrap_or}
-use Rattle.std.specs.List.{list_any, AllByRecursion}
+use Rattle.std.proofs.Common.{◌≡◌, ℕ, zero, suc, ◌<◌, ◌≤◌, Bool, true, false, cond, List, [], ◌∷◌, ◌++◌, length, refl, ap, sym, ◌∙◌, subst, arith, inl, inr, Some, None, Option}
+use Rattle.std.specs.Prelude.{◌⊎◌, ◌&&◌, flat_map, reverse, slice_get, unwrap_or}
+use Rattle.std.specs.List.{list_any}
 use Rattle.std.specs.BTreeMap.{BTreeMap}
 use Rattle.std.proofs.lemmas.List.{reverse-append, reverse-reverse}
 use Rattle.ss_base.specs.declared.types.CalcErr.TheVariants as fault
@@ -12,8 +12,6 @@ use Rattle.sheet_value.specs.declared.value.Value.{Value}
 use Rattle.sheet_value.specs.declared.value.Value.TheVariants as value
 use Rattle.sheet_value.specs.Tables.{Table, value_at, with_value}
 use Rattle.cell_eval.specs.Meaning.{formula_value}
-use Rattle.sheet_ops.specs.declared.content.Content.{Content}
-use Rattle.sheet_ops.specs.declared.content.Content.TheVariants as content
 use Rattle.sheet_ops.specs.Lines.{Axis, rec_at, marks}
 use Rattle.sheet_ops.specs.Fits.{IsWellFormed}
 use Rattle.sheet_ops.specs.Identity.{IdContent, blank, number, text, formula, IdSheet}
@@ -24,25 +22,23 @@ use Rattle.cell_walk.specs.declared.walking.Colour.TheVariants.{White, Grey, Ord
 use Rattle.cell_walk.specs.Walks.{IsIn, hue, is_circle, Orderly, IsFound}
 use Rattle.cell_walk.proofs.Hues.{hue_within}
 use Rattle.sheet_grid.specs.Cells.{visible_size}
-use Rattle.sheet_graph.specs.declared.areas.Area.{Area}
 use Rattle.sheet_graph.specs.declared.graph.Node.{Node}
-use Rattle.sheet_graph.specs.Areas.{number_in, in_area, areas_in}
+use Rattle.sheet_graph.specs.Areas.{number_in, in_area}
 use Rattle.sheet_graph.specs.Cursor.{less_or_not}
-use Rattle.sheet_graph.specs.Graphs.{areas_of, mentions_in, is_formula_content, content_at, content_seen, IsGraph}
+use Rattle.sheet_graph.specs.Graphs.{mentions_in, is_formula_content, content_at, content_seen, IsGraph}
 use Rattle.sheet_graph.proofs.Building.{get_past}
 use Rattle.sheet_graph.proofs.Filled.{filter_map_in, get_there}
 use Rattle.sheet_graph.proofs.Lists.{areas_found}
 use Rattle.sheet_graph.proofs.Within.{get_below}
-use Rattle.full_calc.specs.Precedents.{CellId, is_live, is_live_cell, is_seen}
+use Rattle.full_calc.specs.Precedents.{CellId, is_live_cell, is_seen}
 use Rattle.full_calc.specs.Circular.{is_formula, is_formula_cell, formula_cells, is_circular}
 use Rattle.full_calc.specs.Values.{content_value, formula_result, value_at_depth, value_of, value_table}
 use Rattle.full_calc.specs.Positions.{places_in}
 use Rattle.full_calc.specs.Looks.{look_environment}
 use Rattle.full_calc.specs.Shown.{place_seen, cell_shown, value_shown, IsShaped}
 use Rattle.full_calc.specs.Evaluated.{constant_of, circled_node, circled, evaluated_node, evaluated, AreIn}
-use Rattle.full_calc.specs.Computed.{HasConstants, IsComputed}
+use Rattle.full_calc.specs.Computed.{HasConstants}
 use Rattle.full_calc.proofs.Circles.{for_each, at_each}
-use Rattle.full_calc.proofs.Sheets.{step_of}
 use Rattle.full_calc.proofs.Orders.{leaf_known}
 use Rattle.full_calc.proofs.Positions.{cell_there, content_there}
 use Rattle.full_calc.proofs.Standing.{value_step}
@@ -87,9 +83,9 @@ pub found_of : (mentions : ℕ → List ℕ) (first h : ℕ → Colour) (order :
 found_of mentions first h order m n e f = subst (λ (k : ℕ). IsFound mentions first k h order) e f
 
 -- one more evaluation
-evaluated_push : (P : PlacedSheet) (nodes : List Node) (xs : List ℕ) (n : ℕ) (T : Table) → evaluated P nodes (xs ++ n ∷ []) T ≡ evaluated_node P (slice_get nodes n) (evaluated P nodes xs T)
-evaluated_push P nodes [] n T = refl
-evaluated_push P nodes (x ∷ xs) n T = evaluated_push P nodes xs n (evaluated_node P (slice_get nodes x) T)
+evaluated_push : (rows cols : List Bool) (nodes : List Node) (xs : List ℕ) (n : ℕ) (T : Table) → evaluated rows cols nodes (xs ++ n ∷ []) T ≡ evaluated_node rows cols (slice_get nodes n) (evaluated rows cols nodes xs T)
+evaluated_push rows cols nodes [] n T = refl
+evaluated_push rows cols nodes (x ∷ xs) n T = evaluated_push rows cols nodes xs n (evaluated_node rows cols (slice_get nodes x) T)
 
 circle_is : (c : Colour) → is_circle c ≡ true → c ≡ Circular
 circle_is White h = absurd (let e : false ≡ true = h in cc)
@@ -261,39 +257,39 @@ module _ (X : IdSheet) (w : IsWellFormed X) (nodes : List Node) (numbers : List 
               at_position S at.0 at.1 seen.0 seen.1 (r.1 (visible_before rows at.0) (visible_before cols at.1) (leaf (visible_before rows at.0) (visible_before cols at.1) a b h))
           by_number (Some m) h = by_place m h (behind m (mentions m h))
 
-      next_right : is_circular X (id_of X nodes numbers g n) ≡ false → formula_value (look_environment (placed X) S) x.formula ≡ W x.row x.col
+      next_right : is_circular X (id_of X nodes numbers g n) ≡ false → formula_value (look_environment (marks X.rows) (marks X.cols) S) x.formula ≡ W x.row x.col
       next_right free =
           node_value X S nodes numbers g n (number_of_node X w nodes numbers g n x e) free x e (for_each (IsRightAt X S) (places_in rows cols x.formula) mentioned_right)
           ∙ ap (value_of X) (id_shown n x e)
 
-      next_evaluated : is_circular X (id_of X nodes numbers g n) ≡ false → AreEvaluated (n ∷ before) (evaluated_node (placed X) (Some x) S)
+      next_evaluated : is_circular X (id_of X nodes numbers g n) ≡ false → AreEvaluated (n ∷ before) (evaluated_node (marks X.rows) (marks X.cols) (Some x) S)
       next_evaluated free = (
-        put_fits n x e S r.0 (formula_value (look_environment (placed X) S) x.formula) (next_right free),
-        λ a b h. put_keeps n x e S r.0 (formula_value (look_environment (placed X) S) x.formula) (next_right free) a b (r.1 a b h),
+        put_fits n x e S r.0 (formula_value (look_environment (marks X.rows) (marks X.cols) S) x.formula) (next_right free),
+        λ a b h. put_keeps n x e S r.0 (formula_value (look_environment (marks X.rows) (marks X.cols) S) x.formula) (next_right free) a b (r.1 a b h),
         λ m y i h. by_member m y h i,
       )
         where
-          by_member : (m : ℕ) (y : Node) → slice_get nodes m ≡ Some y → IsIn m (n ∷ before) → value_at (evaluated_node (placed X) (Some x) S) y.row y.col ≡ W y.row y.col
-          by_member m y h (inl p) = put_here n x e S r.0 (formula_value (look_environment (placed X) S) x.formula) (next_right free) y (ap (slice_get nodes) p ∙ h)
-          by_member m y h (inr i) = put_keeps n x e S r.0 (formula_value (look_environment (placed X) S) x.formula) (next_right free) y.row y.col (r.2 m y i h)
+          by_member : (m : ℕ) (y : Node) → slice_get nodes m ≡ Some y → IsIn m (n ∷ before) → value_at (evaluated_node (marks X.rows) (marks X.cols) (Some x) S) y.row y.col ≡ W y.row y.col
+          by_member m y h (inl p) = put_here n x e S r.0 (formula_value (look_environment (marks X.rows) (marks X.cols) S) x.formula) (next_right free) y (ap (slice_get nodes) p ∙ h)
+          by_member m y h (inr i) = put_keeps n x e S r.0 (formula_value (look_environment (marks X.rows) (marks X.cols) S) x.formula) (next_right free) y.row y.col (r.2 m y i h)
 
-    evaluated_right : (R : List ℕ) → Orderly (mentions_in nodes numbers) (λ c. White) R → ((n : ℕ) → IsIn n R → n < length nodes) → AreEvaluated R (evaluated (placed X) nodes (reverse R) T)
+    evaluated_right : (R : List ℕ) → Orderly (mentions_in nodes numbers) (λ c. White) R → ((n : ℕ) → IsIn n R → n < length nodes) → AreEvaluated R (evaluated (marks X.rows) (marks X.cols) nodes (reverse R) T)
     evaluated_right [] h below = (f, λ r c e. e, λ n x i e. absurd i)
     evaluated_right (n ∷ before) h below =
         let x = get_there nodes n (below n (inl refl)) in
         let free = ordered_free X w nodes numbers g (λ c. White) (λ m q. let clash : White ≡ Ordered = q in cc) (n ∷ before) h n (inl refl) (below n (inl refl)) in
-        let now = next_evaluated n x.0 x.1 before (evaluated (placed X) nodes (reverse before) T) (evaluated_right before h.1 (λ m i. below m (inr i))) h.0 free in
+        let now = next_evaluated n x.0 x.1 before (evaluated (marks X.rows) (marks X.cols) nodes (reverse before) T) (evaluated_right before h.1 (λ m i. below m (inr i))) h.0 free in
         subst (λ (S : Table). AreEvaluated (n ∷ before) S)
-        (sym (ap (λ (xs : List ℕ). evaluated (placed X) nodes xs T) (reverse-append (n ∷ []) before)
-        ∙ (evaluated_push (placed X) nodes (reverse before) n T
-        ∙ ap (λ (o : Option Node). evaluated_node (placed X) o (evaluated (placed X) nodes (reverse before) T)) x.1)))
+        (sym (ap (λ (xs : List ℕ). evaluated (marks X.rows) (marks X.cols) nodes xs T) (reverse-append (n ∷ []) before)
+        ∙ (evaluated_push (marks X.rows) (marks X.cols) nodes (reverse before) n T
+        ∙ ap (λ (o : Option Node). evaluated_node (marks X.rows) (marks X.cols) o (evaluated (marks X.rows) (marks X.cols) nodes (reverse before) T)) x.1)))
         now
 
   -- ---- all
   module _ (colours : List Colour) (order : List ℕ) (base T : Table) (len : length colours ≡ length nodes)
       (found : IsFound (mentions_in nodes numbers) (λ c. White) (length nodes) (hue colours) (reverse order))
       (constants : HasConstants (placed X) base)
-      (values : T ≡ evaluated (placed X) nodes order (circled nodes colours (length nodes) base)) where
+      (values : T ≡ evaluated (marks X.rows) (marks X.cols) nodes order (circled nodes colours (length nodes) base)) where
     below : (n : ℕ) → IsIn n (reverse order) → n < length nodes
     below n i = let l = hue_within colours n (λ q. let clash : White ≡ Ordered = sym q ∙ (found.ordered n i).0 in cc) in let e = len in omega (arith, l, e)
 
@@ -306,7 +302,7 @@ module _ (X : IdSheet) (w : IsWellFormed X) (nodes : List Node) (numbers : List 
     all_done : AreEvaluated (circled nodes colours (length nodes) base) circles_done.0 (λ r c h k e. circles_done.1 r c (first_leaf r c h k e)) (reverse order) T
     all_done =
         subst (λ (S : Table). AreEvaluated (circled nodes colours (length nodes) base) circles_done.0 (λ r c h k e. circles_done.1 r c (first_leaf r c h k e)) (reverse order) S)
-        (ap (λ (xs : List ℕ). evaluated (placed X) nodes xs (circled nodes colours (length nodes) base)) (reverse-reverse order) ∙ sym values)
+        (ap (λ (xs : List ℕ). evaluated (marks X.rows) (marks X.cols) nodes xs (circled nodes colours (length nodes) base)) (reverse-reverse order) ∙ sym values)
         (evaluated_right (circled nodes colours (length nodes) base) circles_done.0 (λ r c h k e. circles_done.1 r c (first_leaf r c h k e)) (reverse order) found.orderly below)
 
     right_at : (r c : ℕ) → r < length (visible_places (marks X.rows)) → c < length (visible_places (marks X.cols)) → value_at T r c ≡ W r c

@@ -1,14 +1,12 @@
 -- What the environment of a sheet shows at a reference, by identity.
-use Rattle.std.proofs.Common.{◌≡◌, ℕ, zero, suc, ◌+◌, ◌<◌, ◌≤◌, Bool, true, false, cond, List, [], ◌∷◌, ◌++◌, length, map, refl, ap, sym, ◌∙◌, subst, arith, inl, inr, Some, None, Option}
+use Rattle.std.proofs.Common.{◌≡◌, ℕ, zero, suc, ◌+◌, ◌≤◌, Bool, true, false, cond, List, [], ◌∷◌, ◌++◌, map, refl, ap, sym, ◌∙◌, subst, arith, inl, inr, Some, None}
 use Rattle.std.specs.Prelude.{◌&&◌, ◌⊎◌, ◌-◌, not, nat_le, filter, take, drop, slice_index_or, is_some, flat_map}
 use Rattle.std.specs.List.{list_any, AllByRecursion}
 use Rattle.std.proofs.lemmas.Bool.Decides.{nat_tests}
-use Rattle.ss_base.specs.declared.types.Spot.{Spot}
-use Rattle.ss_base.specs.declared.types.Span.{Span}
 use Rattle.formula_tree.specs.Tree.{Tree, Trees, num, text, fault, cell, range, pre, bin, call, none, more}
 use Rattle.formula_tree.specs.Remap.{EachReference, EachReferences}
 use Rattle.sheet_value.specs.declared.value.Value.{Value}
-use Rattle.sheet_value.specs.Environment.{Environment, cell_value, range_shape, size_of_lines}
+use Rattle.sheet_value.specs.Environment.{cell_value, range_shape, size_of_lines}
 use Rattle.funcs.specs.Areas.{range_values}
 use Rattle.cell_eval.proofs.Alike.{SeesCell, SeesRange, formula-same}
 use Rattle.marked_lines.specs.Marks.{places_from}
@@ -17,7 +15,7 @@ use Rattle.sheet_ops.specs.Lines.{AxisLine, Axis, place_where, rec_place, slot_p
 use Rattle.sheet_ops.specs.Identity.{IdCell, IdRange, IdSheet}
 use Rattle.sheet_ops.specs.Naming.{locate_cell, locate_range}
 use Rattle.sheet_ops.proofs.Ids.{id_eq-same, true_or_false, both_true}
-use Rattle.full_calc.specs.Precedents.{CellId, is_live, is_live_cell, lines_between, seen_between, cell_mentions, range_mentions, mentioned, mentioned_all, is_seen, places_between, environment}
+use Rattle.full_calc.specs.Precedents.{CellId, is_live, is_live_cell, seen_between, cell_mentions, range_mentions, mentioned, mentioned_all, is_seen, places_between, environment}
 use Rattle.full_calc.specs.Values.{formula_result}
 
 -- ---- a record and its position

@@ -1,11 +1,10 @@
 -- The values of a sheet by depth: what holds of any cells holds of those of a sheet.
-use Rattle.std.proofs.Common.{◌≡◌, ℕ, zero, suc, ◌+◌, ◌<◌, ◌≤◌, Bool, true, false, cond, List, [], ◌∷◌, ◌++◌, length, map, refl, ap, sym, ◌∙◌, subst, arith, inl, inr}
+use Rattle.std.proofs.Common.{◌≡◌, ℕ, zero, suc, ◌+◌, Bool, true, false, cond, List, [], ◌∷◌, ◌++◌, length, map, refl, ap, sym, ◌∙◌, subst, inl, inr}
 use Rattle.std.specs.Prelude.{◌&&◌, ◌||◌, ◌⊎◌, not, filter, flat_map, take, drop}
 use Rattle.std.specs.List.{list_any, AllByRecursion}
 use Rattle.ss_base.specs.declared.types.CalcErr.TheVariants as fault
 use Rattle.formula_tree.specs.Tree.{Tree, Trees, cell, range, none, more}
 use Rattle.formula_tree.specs.Tree as tree
-use Rattle.formula_tree.specs.Remap.{EachReference, EachReferences}
 use Rattle.sheet_value.specs.declared.value.Value.{Value}
 use Rattle.sheet_value.specs.declared.value.Value.TheVariants as value
 use Rattle.sheet_ops.specs.LineIds.{LineId, id_eq}
@@ -13,11 +12,11 @@ use Rattle.sheet_ops.specs.Lines.{AxisLine, Axis, live_lines, slot_place}
 use Rattle.sheet_ops.specs.Identity.{IdCell, IdRange, IdContent, blank, number, text, formula, IdSheet}
 use Rattle.sheet_ops.proofs.Ids.{id_eq-same, id_eq-self, true_or_false}
 use Rattle.sheet_ops.proofs.References.{always}
-use Rattle.full_calc.specs.Precedents.{CellId, is_live, is_live_cell, live_cells, lines_between, seen_between, cell_mentions, range_mentions, mentioned, mentioned_all}
+use Rattle.full_calc.specs.Precedents.{CellId, is_live, is_live_cell, live_cells, lines_between, seen_between, mentioned, mentioned_all}
 use Rattle.full_calc.specs.Depth.{circular_at, value_at}
 use Rattle.full_calc.specs.Circular.{is_formula, is_formula_cell, formula_cells, content_precedents, precedents, is_circular_at, is_circular}
 use Rattle.full_calc.specs.Values.{content_value, formula_result, value_at_depth, value_of}
-use Rattle.full_calc.proofs.Seen.{cell_of, SameCell, SameRange, LeadsAlike, mentioned-same, formula_result-same}
+use Rattle.full_calc.proofs.Seen.{cell_of, SameCell, SameRange, formula_result-same}
 use Rattle.full_calc.proofs.Circles as circles
 use Rattle.full_calc.proofs.Circles.{for_each, at_each}
 use Rattle.cell_walk.specs.Walks.{IsIn}

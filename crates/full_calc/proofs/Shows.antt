@@ -1,5 +1,5 @@
 -- The table of a sheet's values, index by index.
-use Rattle.std.proofs.Common.{◌≡◌, ℕ, zero, suc, ◌+◌, ◌<◌, ◌≤◌, Bool, true, false, cond, List, [], ◌∷◌, length, map, refl, ap, sym, ◌∙◌, subst, arith, Some, None, Option}
+use Rattle.std.proofs.Common.{◌≡◌, ℕ, zero, suc, ◌+◌, ◌<◌, Bool, true, false, cond, List, [], ◌∷◌, length, map, refl, ap, sym, ◌∙◌, arith}
 use Rattle.std.specs.Prelude.{not, filter, slice_get, slice_index_or, unwrap_or}
 use Rattle.std.specs.List.{AllByRecursion}
 use Rattle.std.proofs.lemmas.List.{length-map}
@@ -12,9 +12,8 @@ use Rattle.sheet_value.specs.declared.value.Value.{Value}
 use Rattle.sheet_value.specs.declared.value.Value.TheVariants as value
 use Rattle.sheet_value.specs.Tables.{Table, value_at}
 use Rattle.sheet_grid.specs.Cells.{visible_size}
-use Rattle.full_calc.specs.Precedents.{CellId}
 use Rattle.full_calc.specs.Values.{value_of, value_table}
-use Rattle.full_calc.specs.Shown.{place_seen, cell_shown, value_shown, IsShaped}
+use Rattle.full_calc.specs.Shown.{place_seen, value_shown, IsShaped}
 use Rattle.full_calc.proofs.Tables.{same_table}
 
 -- ---- the lines that are live stand at the positions that are visible

@@ -1,9 +1,8 @@
 -- Cells in an order, and their values by the final values.
-use Rattle.std.proofs.Common.{◌≡◌, ℕ, suc, ◌+◌, Bool, true, false, cond, List, [], ◌∷◌, length, refl, ap, sym, ◌∙◌, subst, arith, inl, inr}
+use Rattle.std.proofs.Common.{◌≡◌, suc, ◌+◌, true, false, cond, List, [], ◌∷◌, length, ap, sym, ◌∙◌, subst, arith, inl, inr}
 use Rattle.std.specs.Prelude.{◌⊎◌}
 use Rattle.std.specs.List.{list_any, AllByRecursion}
 use Rattle.ss_base.specs.declared.types.CalcErr.TheVariants as fault
-use Rattle.sheet_value.specs.declared.value.Value.{Value}
 use Rattle.sheet_value.specs.declared.value.Value.TheVariants as value
 use Rattle.sheet_ops.specs.Identity.{IdSheet}
 use Rattle.cell_walk.specs.Walks.{IsIn}

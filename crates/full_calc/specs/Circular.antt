@@ -1,7 +1,7 @@
 -- Circular cells: from them mentions can be followed through formula cells without end.
 use Rattle.std.specs.Prelude.{ℕ, zero, suc, ◌&&◌, not, Bool, true, false, List, [], length, filter}
 use Rattle.std.specs.List.{list_any}
-use Rattle.sheet_ops.specs.Identity.{IdContent, blank, number, text, formula, IdSheet}
+use Rattle.sheet_ops.specs.Identity.{IdContent, formula, IdSheet}
 use Rattle.full_calc.specs.Precedents.{CellId, is_live_cell, live_cells, mentioned}
 
 abbrev pub is_formula : IdContent → Bool

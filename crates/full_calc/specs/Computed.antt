@@ -29,4 +29,4 @@ pub record IsComputed (P : PlacedSheet) (T : Table) : Type 0 where
   pub found : IsFound (mentions_in nodes numbers) (λ c. White) (length nodes) (hue colours) (reverse order)
   pub len : length colours ≡ length nodes
   pub constants : HasConstants P base
-  pub values : T ≡ evaluated P nodes order (circled nodes colours (length nodes) base)
+  pub values : T ≡ evaluated P.rows P.cols nodes order (circled nodes colours (length nodes) base)

@@ -1,5 +1,6 @@
 pub mod Circular
 pub mod Computed
+pub mod Counted
 pub mod Depth
 pub mod Evaluated
 pub mod Looks

@@ -1,5 +1,5 @@
 -- Which cells are live, which of them a formula mentions, and what it sees of their values.
-use Rattle.std.specs.Prelude.{ℕ, suc, ◌&&◌, nat_le, not, if◌then◌else◌, Bool, true, List, [], ◌∷◌, ◌++◌, map, filter, flat_map, take, drop, slice_index_or, Option, None, Some}
+use Rattle.std.specs.Prelude.{ℕ, suc, ◌&&◌, nat_le, not, if◌then◌else◌, Bool, true, List, [], ◌∷◌, ◌++◌, map, filter, flat_map, take, drop, slice_index_or, None, Some}
 use Rattle.std.specs.List.{list_any}
 use Rattle.formula_tree.specs.Tree.{Tree, Trees, num, text, fault, cell, range, pre, bin, call, none, more}
 use Rattle.sheet_value.specs.declared.value.Value.{Value}

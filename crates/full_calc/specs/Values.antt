@@ -1,5 +1,5 @@
 -- The values of a sheet's cells.
-use Rattle.std.specs.Prelude.{ℕ, zero, suc, if◌then◌else◌, List, length, map}
+use Rattle.std.specs.Prelude.{ℕ, zero, suc, if◌then◌else◌, length, map}
 use Rattle.ss_base.specs.declared.types.CalcErr.TheVariants as fault
 use Rattle.formula_tree.specs.Tree.{Tree, rename_tree}
 use Rattle.sheet_value.specs.declared.value.Value.{Value}

@@ -1,17 +1,16 @@
 ghost use Rattle.std.specs.Prelude.{◌≡◌, ◌+◌, ◌<◌, ◌≤◌, length, OnOk};
 ghost use Rattle.sheet_value.specs.Tables.{with_value};
 ghost use Rattle.cell_eval.specs.Meaning.{formula_value};
-ghost use Rattle.sheet_grid.specs.Values.{placed_in};
 ghost use Rattle.cell_walk.specs.Walks.{hue};
 ghost use Rattle.full_calc.specs.Looks.{look_environment};
 ghost use Rattle.full_calc.specs.Evaluated.{circled, evaluated, AreIn};
 
+use crate::lines::SheetLines;
 use crate::look::SheetLook;
 use cell_eval::{Steps, eval};
 use cell_walk::Colour;
 use formula_code::compile;
 use sheet_graph::Node;
-use sheet_grid::Sheet;
 use sheet_value::{Grid, Value};
 use ss_base::{CalcErr, Memory};
 use std::alloc::Global;
@@ -35,7 +34,7 @@ pub(crate) fn circle(grid: &mut Grid, nodes: &[Node], colours: &[Colour]) -> Res
 /// Evaluates one formula cell.
 fn evaluate_node<G: Ledger>(
     alloc: Global,
-    sheet: &Sheet,
+    lines: &SheetLines,
     node: &Node,
     grid: &mut Grid,
     steps: &mut Steps<G>,
@@ -43,17 +42,17 @@ fn evaluate_node<G: Ledger>(
     requires row { node.now.row < grid.old.size.rows }
     requires col { node.now.col < grid.old.size.cols }
     ensures count { steps.new ≤ steps.old + 1 }
-    ensures value { OnOk result (grid.new ≡ with_value grid.old node.now.row node.now.col (formula_value (look_environment (placed_in sheet.now) grid.old) node.now.formula)) }
+    ensures value { OnOk result (grid.new ≡ with_value grid.old node.now.row node.now.col (formula_value (look_environment lines.now.rows lines.now.cols grid.old) node.now.formula)) }
 {
     let code = compile(alloc, &node.formula)?;
-    let value = eval(alloc, &code, &SheetLook { sheet, grid }, steps)?;
+    let value = eval(alloc, &code, &SheetLook { lines, grid }, steps)?;
     grid.put(node.row, node.col, value)
 }
 
 /// Evaluates the formula cells with these numbers, one after another, each once.
 pub(crate) fn evaluate<G: Ledger>(
     alloc: Global,
-    sheet: &Sheet,
+    lines: &SheetLines,
     nodes: &[Node],
     order: &[u32],
     grid: &mut Grid,
@@ -61,11 +60,11 @@ pub(crate) fn evaluate<G: Ledger>(
 ) -> Result<(), Memory>
     requires { AreIn grid.old.size nodes.now }
     ensures count { steps.new ≤ steps.old + length order.now }
-    ensures values { OnOk result (grid.new ≡ evaluated (placed_in sheet.now) nodes.now order.now grid.old) }
+    ensures values { OnOk result (grid.new ≡ evaluated lines.now.rows lines.now.cols nodes.now order.now grid.old) }
 {
     for n in order {
         if let Some(node) = nodes.get(*n as usize) {
-            evaluate_node(alloc, sheet, node, grid, steps)?;
+            evaluate_node(alloc, lines, node, grid, steps)?;
         }
     }
     Ok(())

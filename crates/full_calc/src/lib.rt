@@ -3,6 +3,7 @@
 
 mod constants;
 mod evaluation;
+mod lines;
 mod look;
 mod whole;
 

@@ -2,36 +2,35 @@ ghost use Rattle.std.specs.Prelude.{◌≡◌, ◌-◌, ◌+◌, unwrap_or, Some
 ghost use Rattle.std.specs.Option.{option_copied};
 ghost use Rattle.sheet_value.specs.declared.value.Value.TheVariants as value;
 ghost use Rattle.sheet_value.specs.Environment.{seen_value};
-ghost use Rattle.sheet_grid.specs.Values.{placed_in};
 ghost use Rattle.full_calc.specs.Looks.{look_environment};
 
-use sheet_grid::Sheet;
+use crate::lines::SheetLines;
 use sheet_value::{Grid, Look, Seen, Value};
 use ss_base::{Size, Span, Spot};
 
-/// A sheet, and values by visible indexes. What is hidden isn't seen.
+/// The lines of a sheet, and values by visible indexes. What is hidden isn't seen.
 #[derive(Drop)]
 pub(crate) struct SheetLook<'a> {
-    pub sheet: &'a Sheet,
+    pub lines: &'a SheetLines,
     pub grid: &'a Grid,
 }
 
 impl Look for SheetLook<'_> {
-    ghost environment = { λ l. look_environment (placed_in l.sheet.now) l.grid.now };
+    ghost environment = { λ l. look_environment l.lines.now.rows l.lines.now.cols l.grid.now };
 
     fn cell(&self, spot: &Spot) -> Seen<'_> {
-        let Some(row) = self.sheet.row_seen(spot.row) else {
+        let Some(row) = self.lines.rows.index(spot.row) else {
             return Seen::Lost;
         };
-        let Some(col) = self.sheet.col_seen(spot.col) else {
+        let Some(col) = self.lines.cols.index(spot.col) else {
             return Seen::Lost;
         };
         seen(self.grid.at(row, col))
     }
 
     fn shape(&self, span: &Span) -> Option<Size> {
-        let (top, bottom) = self.sheet.rows_seen(span.top, span.bottom)?;
-        let (left, right) = self.sheet.cols_seen(span.left, span.right)?;
+        let (top, bottom) = self.lines.rows.span(span.top, span.bottom)?;
+        let (left, right) = self.lines.cols.span(span.left, span.right)?;
         Some(Size {
             rows: (bottom + 1).saturating_sub(top),
             cols: (right + 1).saturating_sub(left),
@@ -39,10 +38,10 @@ impl Look for SheetLook<'_> {
     }
 
     fn part(&self, span: &Span, row: u32, col: u32) -> Seen<'_> {
-        let Some((top, _)) = self.sheet.rows_seen(span.top, span.bottom) else {
+        let Some((top, _)) = self.lines.rows.span(span.top, span.bottom) else {
             return Seen::Lost;
         };
-        let Some((left, _)) = self.sheet.cols_seen(span.left, span.right) else {
+        let Some((left, _)) = self.lines.cols.span(span.left, span.right) else {
             return Seen::Lost;
         };
         seen(self.grid.at(top + row, left + col))

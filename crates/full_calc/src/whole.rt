@@ -9,6 +9,7 @@ ghost use Rattle.full_calc.specs.Values.{value_table};
 
 use crate::constants::constants;
 use crate::evaluation::{circle, evaluate};
+use crate::lines::SheetLines;
 use cell_eval::Steps;
 use cell_walk::walk_new;
 use sheet_graph::graph_of;
@@ -27,7 +28,8 @@ fn computed<G: Ledger>(alloc: Global, sheet: &Sheet, steps: &mut Steps<G>) -> Re
     let found = walk_new(alloc, &graph, graph.nodes.len() as u32)?;
     let mut grid = constants(alloc, sheet)?;
     circle(&mut grid, &graph.nodes, &found.colours)?;
-    evaluate(alloc, sheet, &graph.nodes, &found.order, &mut grid, steps)?;
+    let lines = SheetLines::of(alloc, sheet)?;
+    evaluate(alloc, &lines, &graph.nodes, &found.order, &mut grid, steps)?;
     Ok(grid)
 }
 

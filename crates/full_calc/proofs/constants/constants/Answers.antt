@@ -1,6 +1,6 @@
-use Rattle.std.proofs.Common.{◌≡◌, ◌≤◌, ◌<◌, ℕ, List, length, sym, ◌∙◌, ap, subst, arith}
+use Rattle.std.proofs.Common.{ℕ, List, sym, ◌∙◌, ap, subst, arith}
 use Rattle.ss_base.specs.declared.types.Size.{Size}
-use Rattle.sheet_value.specs.Tables.{Table, empty_table}
+use Rattle.sheet_value.specs.Tables.{empty_table}
 use Rattle.sheet_grid.specs.Values.{placed_in}
 use Rattle.sheet_grid.specs.Cells.{visible_size}
 use Rattle.sheet_graph.specs.Graphs.{HoldsFilled}

@@ -1,9 +1,8 @@
-use Rattle.std.proofs.Common.{◌≡◌, ◌≢◌, ◌<◌, ℕ, take, length, sym, ◌∙◌, ap, subst, refl, arith, inl, inr}
+use Rattle.std.proofs.Common.{◌<◌, sym, ◌∙◌, ap, subst, refl, arith, inl}
 use Rattle.std.specs.Prelude.{slice_index_or}
 use Rattle.ss_base.specs.declared.types.Size.{Size}
 use Rattle.sheet_value.specs.Tables.{Table, value_at}
 use Rattle.sheet_grid.specs.Values.{placed_in}
-use Rattle.sheet_grid.specs.Cells.{visible_size}
 use Rattle.sheet_graph.specs.Graphs.{content_seen}
 use Rattle.sheet_graph.proofs.Building.{at_in}
 use Rattle.full_calc.specs.Shown.{IsShaped}

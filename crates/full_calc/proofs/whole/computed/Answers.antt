@@ -1,9 +1,8 @@
-use Rattle.std.proofs.Common.{◌≡◌, ◌∙◌, ◌≤◌, ◌+◌, ℕ, List, length, sym, ap, subst, arith}
+use Rattle.std.proofs.Common.{◌≡◌, ◌∙◌, List, length, sym, ap}
 use Rattle.std.specs.Prelude.{reverse}
-use Rattle.ss_base.specs.declared.types.Size.{Size}
 use Rattle.cell_walk.specs.declared.walking.Colour.{Colour}
 use Rattle.cell_walk.specs.declared.walking.Colour.TheVariants.{White}
-use Rattle.cell_walk.specs.Walks.{hue, IsWithin, IsFound}
+use Rattle.cell_walk.specs.Walks.{hue}
 use Rattle.cell_walk.proofs.Steps.{within_len}
 use Rattle.sheet_grid.specs.Values.{placed_in}
 use Rattle.sheet_grid.specs.Cells.{visible_size}
@@ -49,7 +48,7 @@ returns-clause-computed g c =
       len = c.in_ok-found.ensures.len ∙ count;
       constants = c.in_ok-grid.ensures;
       values = c.in_ok-evaluate.ensures.values
-          ∙ (λ i. evaluated (placed_in c.args.sheet.now) (c.deref-3.ensures.value i) (c.deref-4.ensures.value i)
+          ∙ (λ i. evaluated (c.in_ok-lines.ensures.rows i) (c.in_ok-lines.ensures.cols i) (c.deref-3.ensures.value i) (c.deref-4.ensures.value i)
           ((c.in_ok-circle.ensures.values ∙ (λ j. circled (c.deref.ensures.value j) (c.deref-2.ensures.value j) (length (c.deref.ensures.value j)) c.in_ok-grid.grid)) i));
     }
 

@@ -1,4 +1,3 @@
-use Rattle.std.proofs.Common.{◌≡◌}
 use Rattle.cell_walk.proofs.White.{if_ok}
 use Rattle.sheet_grid.specs.Values.{placed_in}
 use Rattle.full_calc.proofs.Results.{computed_values}
