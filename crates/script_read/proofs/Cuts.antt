@@ -1,11 +1,11 @@
 -- a text and its first word
-use Rattle.std.proofs.Common.{◌≡◌, ℕ, Bool, true, false, cond, ◌+◌, ◌≤◌, ◌<◌, List, [], ◌∷◌, length, take, drop, nat_lt, refl, ◌∙◌, ap, arith, Some, None}
+use Rattle.std.proofs.Common.{◌≡◌, ℕ, Bool, true, false, cond, ◌+◌, ◌≤◌, ◌<◌, List, [], ◌∷◌, length, take, drop, nat_lt, refl, ◌∙◌, ap, arith, Option, Some, None}
 use Rattle.std.specs.List.{slice_split, position_or_len, join_with_byte}
 use Rattle.std.specs.Prelude.{position}
 use Rattle.std.proofs.lemmas.Bool.{ltb-true}
 use Rattle.std.proofs.lemmas.Bool.Decides.{nat_tests}
 use Rattle.std.proofs.lemmas.List.Splits.{slice_split_first, length-slice_split, join_with_byte-slice_split}
-use Rattle.script_read.specs.Commands.{of_words, of_more_words}
+use Rattle.script_read.specs.Commands.{of_words, of_more_words, sort_of}
 use Rattle.script_read.specs.Words.{is_space, words}
 
 -- a list none of whose elements passes isn't cut
@@ -47,3 +47,11 @@ of_words-more a b c entry =
 pub line_of_more : (line a after_a b after_b c entry : List ℕ) → words line ≡ a ∷ words after_a → words after_a ≡ b ∷ words after_b → words after_b ≡ c ∷ words entry →
     of_words (words line) ≡ of_more_words a b c entry
 line_of_more line a after_a b after_b c entry e f g = rw (e, f, g) (of_words-more a b c entry)
+
+-- behind the direction of a sort there is no further word
+sort_of-longer : (a b rest : List ℕ) (ws : List (List ℕ)) (name : Option (List ℕ)) (rows : Option (ℕ × ℕ)) → words rest ≡ ws → None ≡ sort_of (a ∷ b ∷ ws) name rows
+sort_of-longer a b rest [] name rows e = absurd (let none = ap (λ (l : List (List ℕ)). length l) e in let some = length-slice_split is_space rest in omega (arith, none, some))
+sort_of-longer a b rest (d ∷ ds) name rows e = refl
+
+pub sort_of-more : (text a after b rest : List ℕ) (name : Option (List ℕ)) (rows : Option (ℕ × ℕ)) → words text ≡ a ∷ words after → words after ≡ b ∷ words rest → None ≡ sort_of (words text) name rows
+sort_of-more text a after b rest name rows e f = rw (e, f) (sort_of-longer a b rest (words rest) name rows refl)

@@ -1,6 +1,6 @@
 -- How large the sheet of a line is, and how long its entry.
-use Rattle.std.proofs.Common.{◌≡◌, ℕ, ◌≤◌, Bool, true, false, cond, List, [], ◌∷◌, length, refl, sym, subst, arith, Option, Some, None}
-use Rattle.std.specs.Prelude.{nat_le, ◌&&◌, option_map, codes}
+use Rattle.std.proofs.Common.{◌≡◌, ℕ, ◌+◌, ◌≤◌, take, drop, Bool, true, false, cond, List, [], ◌∷◌, length, refl, sym, subst, arith, Option, Some, None}
+use Rattle.std.specs.Prelude.{nat_le, ◌&&◌, ◌||◌, option_map, position, codes}
 use Rattle.std.specs.List.{list_all, join_with_byte}
 use Rattle.std.specs.Str.{bytes_eq}
 use Rattle.std.specs.Str.Parse.{digits_value}
@@ -8,7 +8,8 @@ use Rattle.std.proofs.lemmas.Bool.Decides.{nat_tests}
 use Rattle.std.proofs.lemmas.List.{length-append}
 use Rattle.std.proofs.lemmas.List.Splits.{join_with_byte-slice_split}
 use Rattle.ss_base.specs.declared.types.Spot.{Spot}
-use Rattle.cell_addr.specs.Cells.{cell_of}
+use Rattle.ss_base.specs.declared.types.Span.{Span}
+use Rattle.cell_addr.specs.Cells.{cell_of, range_of, range_at, span_of, is_colon}
 use Rattle.cell_addr.specs.Columns.{col_named}
 use Rattle.cell_addr.specs.Rows.{is_count, counted, row_numbered}
 use Rattle.cell_addr.proofs.Digits.{count_size}
@@ -16,7 +17,7 @@ use Rattle.sheet_ops.specs.declared.edit.Edit.{Edit}
 use Rattle.sheet_ops.specs.declared.edit.Edit.TheVariants as edit
 use Rattle.script_read.specs.declared.command.Command.{Command}
 use Rattle.script_read.specs.declared.command.Command.TheVariants as command
-use Rattle.script_read.specs.Commands.{command_of, is_note, sheet_sized, push_of, pull_of, plain_cell, set_of, clear_of, line_edit_of, of_one_word, of_two_words, of_one_line, of_three_words, of_more_words, of_words, IsWithin}
+use Rattle.script_read.specs.Commands.{command_of, is_note, sheet_sized, push_of, pull_of, plain_cell, plain_range, set_of, clear_of, read_of, copy_of, rows_between, rows_at, rows_of, is_downward, sort_by, sort_of, line_edit_of, of_one_word, of_one_site, of_two_words, of_one_line, of_three_words, of_more_words, of_words, IsWithin}
 use Rattle.script_read.specs.Words.{is_printable, words, named}
 
 module _ (most : ℕ) where
@@ -64,6 +65,75 @@ module _ (most : ℕ) where
   good_pull (Some name) None = tt
   good_pull (Some name) (Some n) = tt
 
+  -- a range has its corners in order
+  abbrev IsOrdered : Option Span → Type 0
+  IsOrdered None = Unit {0}
+  IsOrdered (Some range) = (range.top ≤ range.bottom) × (range.left ≤ range.right)
+
+  ordered_between : (a b : Option Spot) → IsOrdered (span_of a b)
+  ordered_between None b = tt
+  ordered_between (Some a) None = tt
+  ordered_between (Some a) (Some b) = (by_test a.row b.row (nat_le a.row b.row) refl, by_test a.col b.col (nat_le a.col b.col) refl)
+    where
+      by_test : (m n : ℕ) (t : Bool) → nat_le m n ≡ t → cond t m n ≤ cond t n m
+      by_test m n true e = grind (arith, nat_tests)
+      by_test m n false e = grind (arith, nat_tests)
+
+  ordered_range : (text : List ℕ) → IsOrdered (range_of text)
+  ordered_range text = at_colon (position is_colon text)
+    where
+      at_colon : (o : Option ℕ) → IsOrdered (range_at o text)
+      at_colon None = ordered_between (cell_of text) (cell_of text)
+      at_colon (Some colon) = ordered_between (cell_of (take colon text)) (cell_of (drop (colon + 1) text))
+
+  ordered_plain : (o : Option Span) → IsOrdered o → IsOrdered (plain_range o)
+  ordered_plain None h = tt
+  ordered_plain (Some range) h = by_test ((range.abs_top || range.abs_left) || (range.abs_bottom || range.abs_right))
+    where
+      by_test : (t : Bool) → IsOrdered (cond t None (Some range))
+      by_test true = tt
+      by_test false = h
+
+  good_read : (name : Option (List ℕ)) (range : Option Span) → IsOrdered range → IsGood (read_of name range)
+  good_read None range h = tt
+  good_read (Some name) None h = tt
+  good_read (Some name) (Some range) h = h
+
+  good_copy : (name : Option (List ℕ)) (from : Option Span) (to : Option Spot) → IsOrdered from → IsGood (copy_of name from to)
+  good_copy None from to h = tt
+  good_copy (Some name) None to h = tt
+  good_copy (Some name) (Some from) None h = tt
+  good_copy (Some name) (Some from) (Some to) h = h
+
+  abbrev AreOrdered : Option (ℕ × ℕ) → Type 0
+  AreOrdered None = Unit {0}
+  AreOrdered (Some rows) = rows.0 ≤ rows.1
+
+  ordered_rows : (text : List ℕ) → AreOrdered (rows_of text)
+  ordered_rows text = at_colon (position is_colon text)
+    where
+      between : (a b : Option ℕ) → AreOrdered (rows_between a b)
+      between None b = tt
+      between (Some a) None = tt
+      between (Some a) (Some b) = omega arith
+
+      at_colon : (o : Option ℕ) → AreOrdered (rows_at o text)
+      at_colon None = tt
+      at_colon (Some colon) = between (row_numbered (take colon text)) (row_numbered (drop (colon + 1) text))
+
+  good_sort_by : (name : Option (List ℕ)) (rows : Option (ℕ × ℕ)) (col : Option ℕ) (down : Option Bool) → AreOrdered rows → IsGood (sort_by name rows col down)
+  good_sort_by None rows col down h = tt
+  good_sort_by (Some name) None col down h = tt
+  good_sort_by (Some name) (Some rows) None down h = tt
+  good_sort_by (Some name) (Some rows) (Some col) None h = tt
+  good_sort_by (Some name) (Some rows) (Some col) (Some down) h = h
+
+  good_sort : (ws : List (List ℕ)) (name : Option (List ℕ)) (rows : Option (ℕ × ℕ)) → AreOrdered rows → IsGood (sort_of ws name rows)
+  good_sort [] name rows h = tt
+  good_sort (col ∷ []) name rows h = tt
+  good_sort (col ∷ direction ∷ []) name rows h = good_sort_by name rows (col_named col) (is_downward direction) h
+  good_sort (col ∷ direction ∷ more ∷ others) name rows h = tt
+
   good_set : (name : Option (List ℕ)) (spot : Option Spot) (entry : List ℕ) → length entry ≤ most → IsGood (set_of name spot entry)
   good_set None spot entry h = tt
   good_set (Some name) None entry h = tt
@@ -81,7 +151,17 @@ module _ (most : ℕ) where
   good_line_edit what h (Some name) (Some n) = h n
 
   good_one : (a : List ℕ) → IsGood (of_one_word a)
-  good_one a = good_if (bytes_eq a (codes "end")) (Some command.End) None tt tt
+  good_one a =
+      good_if (bytes_eq a (codes "recalc")) (Some (command.Recalc None)) _ tt
+      (good_if (bytes_eq a (codes "values")) (Some command.Values) _ tt
+      (good_if (bytes_eq a (codes "history")) (Some command.History) _ tt
+      (good_if (bytes_eq a (codes "wire")) (Some command.Wire) _ tt (good_if (bytes_eq a (codes "end")) (Some command.End) None tt tt))))
+
+  good_one_site : (a b : List ℕ) → IsGood (of_one_site a b)
+  good_one_site a b =
+      good_if (bytes_eq b (codes "push")) _ _ (good_map (λ name. command.Push name None) (λ _. tt) (named a))
+      (good_if (bytes_eq b (codes "pull")) _ _ (good_map (λ name. command.Pull name None) (λ _. tt) (named a))
+      (good_if (bytes_eq b (codes "sync")) _ None (good_map command.Sync (λ _. tt) (named a)) tt))
 
   good_two : (a b : List ℕ) → IsGood (of_two_words a b)
   good_two a b =
@@ -89,8 +169,7 @@ module _ (most : ℕ) where
       (good_if (bytes_eq a (codes "show")) _ _ (good_if (bytes_eq b (codes "server")) (Some command.ShowServer) _ tt (good_map command.Show (λ _. tt) (named b)))
       (good_if (bytes_eq a (codes "push")) _ _ (good_if (bytes_eq b (codes "all")) (Some command.PushAll) None tt tt)
       (good_if (bytes_eq a (codes "pull")) _ _ (good_if (bytes_eq b (codes "all")) (Some command.PullAll) None tt tt)
-      (good_if (bytes_eq b (codes "push")) _ _ (good_map (λ name. command.Push name None) (λ _. tt) (named a))
-      (good_if (bytes_eq b (codes "pull")) _ None (good_map (λ name. command.Pull name None) (λ _. tt) (named a)) tt)))))
+      (good_if (bytes_eq a (codes "recalc")) _ _ (good_map (λ count. command.Recalc (Some count)) (λ _. tt) (counted b)) (good_one_site a b)))))
 
   good_one_line : (a b c : List ℕ) → IsGood (of_one_line a b c)
   good_one_line a b c =
@@ -104,10 +183,14 @@ module _ (most : ℕ) where
       good_if (bytes_eq a (codes "sheet")) _ _ (good_sheet (counted b) (counted c) (is_positive b) (is_positive c))
       (good_if (bytes_eq b (codes "push")) _ _ (good_push (named a) (counted c))
       (good_if (bytes_eq b (codes "pull")) _ _ (good_pull (named a) (counted c))
-      (good_if (bytes_eq b (codes "clear")) _ _ (good_clear (named a) (plain_cell (cell_of c))) (good_one_line a b c))))
+      (good_if (bytes_eq b (codes "read")) _ _ (good_read (named a) (plain_range (range_of c)) (ordered_plain (range_of c) (ordered_range c)))
+      (good_if (bytes_eq b (codes "clear")) _ _ (good_clear (named a) (plain_cell (cell_of c))) (good_one_line a b c)))))
 
-  good_more : (a b c entry : List ℕ) → length entry ≤ most → IsGood (of_more_words a b c entry)
-  good_more a b c entry h = good_if (bytes_eq b (codes "set")) _ None (good_set (named a) (plain_cell (cell_of c)) entry h) tt
+  good_more : (a b c rest : List ℕ) → length rest ≤ most → IsGood (of_more_words a b c rest)
+  good_more a b c rest h =
+      good_if (bytes_eq b (codes "set")) _ _ (good_set (named a) (plain_cell (cell_of c)) rest h)
+      (good_if (bytes_eq b (codes "copy")) _ _ (good_copy (named a) (plain_range (range_of c)) (plain_cell (cell_of rest)) (ordered_plain (range_of c) (ordered_range c)))
+      (good_if (bytes_eq b (codes "sort")) _ None (good_sort (words rest) (named a) (rows_of c) (ordered_rows c)) tt))
 
   -- a line is longer than what stands behind its first word
   behind_shorter : (word next : List ℕ) (others : List (List ℕ)) → length (join_with_byte 32 (next ∷ others)) ≤ length (join_with_byte 32 (word ∷ next ∷ others))

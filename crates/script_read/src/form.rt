@@ -3,7 +3,7 @@ ghost use Rattle.script_read.specs.Forms.{command_said};
 
 use crate::command::Command;
 use sheet_ops::Edit;
-use ss_base::{Memory, Size, Spot, Txt};
+use ss_base::{Memory, Size, Span, Spot, Txt};
 use std::alloc::Global;
 
 /// A command whose texts are still parts of the line.
@@ -18,10 +18,18 @@ pub enum Form<'a> {
     InsCol(&'a [u8], u32),
     DelRow(&'a [u8], u32),
     DelCol(&'a [u8], u32),
+    Copy(&'a [u8], Span, Spot),
+    Sort(&'a [u8], (u32, u32), u32, bool),
     Push(&'a [u8], Option<u32>),
     Pull(&'a [u8], Option<u32>),
     PushAll,
     PullAll,
+    Sync(&'a [u8]),
+    Recalc(Option<u32>),
+    Read(&'a [u8], Span),
+    Values,
+    History,
+    Wire,
     Show(&'a [u8]),
     ShowServer,
     End,
@@ -44,10 +52,21 @@ pub fn to_command(alloc: Global, form: Form<'_>) -> Result<Command, Memory>
         Form::InsCol(name, col) => Command::Edit(Txt::new(alloc, name)?, Edit::InsCol(col)),
         Form::DelRow(name, row) => Command::Edit(Txt::new(alloc, name)?, Edit::DelRow(row)),
         Form::DelCol(name, col) => Command::Edit(Txt::new(alloc, name)?, Edit::DelCol(col)),
+        Form::Copy(name, from, to) => Command::Edit(Txt::new(alloc, name)?, Edit::Copy(from, to)),
+        Form::Sort(name, (first, last), col, down) => Command::Edit(
+            Txt::new(alloc, name)?,
+            Edit::Sort(first, last, col, down),
+        ),
         Form::Push(name, count) => Command::Push(Txt::new(alloc, name)?, count),
         Form::Pull(name, count) => Command::Pull(Txt::new(alloc, name)?, count),
         Form::PushAll => Command::PushAll,
         Form::PullAll => Command::PullAll,
+        Form::Sync(name) => Command::Sync(Txt::new(alloc, name)?),
+        Form::Recalc(count) => Command::Recalc(count),
+        Form::Read(name, range) => Command::Read(Txt::new(alloc, name)?, range),
+        Form::Values => Command::Values,
+        Form::History => Command::History,
+        Form::Wire => Command::Wire,
         Form::Show(name) => Command::Show(Txt::new(alloc, name)?),
         Form::ShowServer => Command::ShowServer,
         Form::End => Command::End,

@@ -1,16 +1,17 @@
 ghost use Rattle.std.specs.Prelude.{◌≡◌, ◌↔◌, Some, None, IfOk, IsErrOf, length};
 ghost use Rattle.std.specs.List.{list_all};
-ghost use Rattle.cell_addr.specs.Cells.{cell_of};
+ghost use Rattle.cell_addr.specs.Cells.{cell_of, range_of};
+ghost use Rattle.cell_addr.specs.Columns.{col_named};
 ghost use Rattle.cell_addr.specs.Rows.{row_numbered};
-ghost use Rattle.script_read.specs.Commands.{command_of, IsWithin, is_note, of_words, of_one_word, of_two_words, of_three_words, of_one_line, of_more_words, plain_cell, sheet_sized};
+ghost use Rattle.script_read.specs.Commands.{command_of, IsWithin, is_note, of_words, of_one_word, of_one_site, of_two_words, of_three_words, of_one_line, of_more_words, plain_cell, plain_range, rows_of, rows_between, is_downward, set_of, sort_by, sort_of, sheet_sized};
 ghost use Rattle.script_read.specs.Forms.{said};
-ghost use Rattle.script_read.specs.Words.{is_printable, words};
+ghost use Rattle.script_read.specs.Words.{is_printable, named, words};
 
 use crate::command::{Command, LineFault};
 use crate::form::{Form, to_command};
-use crate::words::{cut, is_word, name_of};
-use cell_addr::{col_of, read_cell, read_count};
-use ss_base::{Size, Spot};
+use crate::words::{colon_in, cut, is_word, name_of};
+use cell_addr::{col_of, read_cell, read_count, read_range};
+use ss_base::{Size, Span, Spot};
 use std::alloc::Global;
 
 /// The command that a line of a script is, given without its line feed. `Grammar` comes exactly where the
@@ -74,7 +75,15 @@ fn form_of_words(line: &[u8]) -> Option<Form<'_>>
 fn of_one_word<'a>(first: &'a [u8]) -> Option<Form<'a>>
     ensures { said result ≡ of_one_word first.now }
 {
-    if is_word(first, b"end") {
+    if is_word(first, b"recalc") {
+        Some(Form::Recalc(None))
+    } else if is_word(first, b"values") {
+        Some(Form::Values)
+    } else if is_word(first, b"history") {
+        Some(Form::History)
+    } else if is_word(first, b"wire") {
+        Some(Form::Wire)
+    } else if is_word(first, b"end") {
         Some(Form::End)
     } else {
         None
@@ -104,10 +113,23 @@ fn of_two_words<'a>(first: &'a [u8], second: &'a [u8]) -> Option<Form<'a>>
         } else {
             None
         }
-    } else if is_word(second, b"push") {
+    } else if is_word(first, b"recalc") {
+        Some(Form::Recalc(Some(read_count(second)?)))
+    } else {
+        of_one_site(first, second)
+    }
+}
+
+/// `NAME push`, `NAME pull`, `NAME sync`.
+fn of_one_site<'a>(first: &'a [u8], second: &'a [u8]) -> Option<Form<'a>>
+    ensures { said result ≡ of_one_site first.now second.now }
+{
+    if is_word(second, b"push") {
         Some(Form::Push(name_of(first)?, None))
     } else if is_word(second, b"pull") {
         Some(Form::Pull(name_of(first)?, None))
+    } else if is_word(second, b"sync") {
+        Some(Form::Sync(name_of(first)?))
     } else {
         None
     }
@@ -122,6 +144,8 @@ fn of_three_words<'a>(first: &'a [u8], second: &'a [u8], third: &'a [u8]) -> Opt
         Some(Form::Push(name_of(first)?, Some(read_count(third)?)))
     } else if is_word(second, b"pull") {
         Some(Form::Pull(name_of(first)?, Some(read_count(third)?)))
+    } else if is_word(second, b"read") {
+        Some(Form::Read(name_of(first)?, plain_range(third)?))
     } else if is_word(second, b"clear") {
         Some(Form::Clear(name_of(first)?, plain_cell(third)?))
     } else {
@@ -165,24 +189,96 @@ fn sheet_sized<'a>(rows: u32, cols: u32) -> Option<Form<'a>>
     }
 }
 
+/// By what stands behind the third word.
 fn of_more_words<'a>(
     first: &'a [u8],
     second: &'a [u8],
     third: &'a [u8],
-    entry: &'a [u8],
+    rest: &'a [u8],
 ) -> Option<Form<'a>>
-    ensures { said result ≡ of_more_words first.now second.now third.now entry.now }
+    ensures { said result ≡ of_more_words first.now second.now third.now rest.now }
 {
-    if !is_word(second, b"set") {
-        return None;
+    if is_word(second, b"set") {
+        set_of(first, third, rest)
+    } else if is_word(second, b"copy") {
+        Some(Form::Copy(name_of(first)?, plain_range(third)?, plain_cell(rest)?))
+    } else if is_word(second, b"sort") {
+        sort_of(first, third, rest)
+    } else {
+        None
     }
-    let name = name_of(first)?;
-    let spot = plain_cell(third)?;
+}
+
+/// `NAME set CELL ENTRY`.
+fn set_of<'a>(name: &'a [u8], cell: &'a [u8], entry: &'a [u8]) -> Option<Form<'a>>
+    ensures { said result ≡ set_of (named name.now) (plain_cell (cell_of cell.now)) entry.now }
+{
+    let name = name_of(name)?;
+    let spot = plain_cell(cell)?;
     if entry.is_empty() {
         None
     } else {
         Some(Form::Set(name, spot, entry))
     }
+}
+
+/// `NAME sort COUNT:COUNT LETTERS up`, or `down`, by what stands behind the rows.
+fn sort_of<'a>(name: &'a [u8], rows: &'a [u8], rest: &'a [u8]) -> Option<Form<'a>>
+    ensures { said result ≡ sort_of (words rest.now) (named name.now) (rows_of rows.now) }
+{
+    let (col, rest) = cut(rest);
+    let Some(rest) = rest else {
+        return None;
+    };
+    let (direction, others) = cut(rest);
+    match others {
+        None => sort_by(name, rows, col, direction),
+        Some(_) => None,
+    }
+}
+
+fn sort_by<'a>(
+    name: &'a [u8],
+    rows: &'a [u8],
+    col: &'a [u8],
+    direction: &'a [u8],
+) -> Option<Form<'a>>
+    ensures { said result ≡ sort_by (named name.now) (rows_of rows.now) (col_named col.now) (is_downward direction.now) }
+{
+    Some(Form::Sort(
+        name_of(name)?,
+        rows_of(rows)?,
+        col_of(col)?,
+        is_downward(direction)?,
+    ))
+}
+
+/// Whether a sort goes downwards.
+fn is_downward(word: &[u8]) -> Option<bool>
+    ensures { result ≡ is_downward word.now }
+{
+    if is_word(word, b"up") {
+        Some(false)
+    } else if is_word(word, b"down") {
+        Some(true)
+    } else {
+        None
+    }
+}
+
+/// The indexes from 0 of the rows of two numbers parted by a colon, put in order.
+fn rows_of(text: &[u8]) -> Option<(u32, u32)>
+    ensures { result ≡ rows_of text.now }
+{
+    let colon = colon_in(text)?;
+    rows_between(row_of(&text[..colon]), row_of(&text[colon + 1..]))
+}
+
+fn rows_between(a: Option<u32>, b: Option<u32>) -> Option<(u32, u32)>
+    ensures { result ≡ rows_between a b }
+{
+    let (a, b) = (a?, b?);
+    Some((a.min(b), a.max(b)))
 }
 
 /// The cell of an address without `$`.
@@ -194,5 +290,17 @@ fn plain_cell(text: &[u8]) -> Option<Spot>
         None
     } else {
         Some(spot)
+    }
+}
+
+/// The range of two addresses without `$`, or of one.
+fn plain_range(text: &[u8]) -> Option<Span>
+    ensures { result ≡ plain_range (range_of text.now) }
+{
+    let range = read_range(text)?;
+    if (range.abs_top || range.abs_left) || (range.abs_bottom || range.abs_right) {
+        None
+    } else {
+        Some(range)
     }
 }

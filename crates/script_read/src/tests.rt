@@ -3,7 +3,7 @@ use std::test::Fail;
 
 #[test]
 fn lines_and_their_commands(rt: HostRuntime) -> Result<(), Fail> {
-    let table: [(&[u8], &str); 21] = [
+    let table: [(&[u8], &str); 30] = [
         (b"", "Ok(Note)"),
         (b"# sheet 1 1", "Ok(Note)"),
         (b"sheet 1000 64", "Ok(Sheet(Size { rows: 1000, cols: 64 }))"),
@@ -43,6 +43,24 @@ fn lines_and_their_commands(rt: HostRuntime) -> Result<(), Fail> {
         (b"a pull 7", "Ok(Pull(Txt { bytes: [97] }, Some(7)))"),
         (b"push all", "Ok(PushAll)"),
         (b"pull all", "Ok(PullAll)"),
+        (
+            b"a copy A1 C3",
+            "Ok(Edit(Txt { bytes: [97] }, Copy(Span { top: 0, left: 0, bottom: 0, right: 0, abs_top: false, abs_left: false, abs_bottom: false, abs_right: false }, Spot { row: 2, col: 2, abs_row: false, abs_col: false })))",
+        ),
+        (
+            b"a sort 4:2 b down",
+            "Ok(Edit(Txt { bytes: [97] }, Sort(1, 3, 1, true)))",
+        ),
+        (b"a sync", "Ok(Sync(Txt { bytes: [97] }))"),
+        (b"recalc", "Ok(Recalc(None))"),
+        (b"recalc 20", "Ok(Recalc(Some(20)))"),
+        (
+            b"a read b3:a2",
+            "Ok(Read(Txt { bytes: [97] }, Span { top: 1, left: 0, bottom: 2, right: 1, abs_top: false, abs_left: false, abs_bottom: false, abs_right: false }))",
+        ),
+        (b"values", "Ok(Values)"),
+        (b"history", "Ok(History)"),
+        (b"wire", "Ok(Wire)"),
         (b"show a1", "Ok(Show(Txt { bytes: [97, 49] }))"),
         (b"show server", "Ok(ShowServer)"),
         (b"end", "Ok(End)"),
@@ -56,7 +74,7 @@ fn lines_and_their_commands(rt: HostRuntime) -> Result<(), Fail> {
 
 #[test]
 fn lines_outside_the_grammar(rt: HostRuntime) -> Result<(), Fail> {
-    let lines: [&[u8]; 16] = [
+    let lines: [&[u8]; 23] = [
         b" end",
         b"end ",
         b"push  all",
@@ -73,6 +91,13 @@ fn lines_outside_the_grammar(rt: HostRuntime) -> Result<(), Fail> {
         b"a delcol $A",
         b"site server",
         b"# a\ttab",
+        b"recalc 0",
+        b"values 1",
+        b"a read $A1:B2",
+        b"a copy A1 B2 ",
+        b"a sort 1:2 A",
+        b"a sort 1 A up",
+        b"a sort 1:2 A up down",
     ];
     for line in lines {
         assert!(rt; matches!(read_command(rt.alloc(), line), Err(LineFault::Grammar)));

@@ -4,6 +4,7 @@ ghost use Rattle.std.specs.Char.{is_ascii_digit};
 ghost use Rattle.std.specs.List.{list_all};
 ghost use Rattle.std.specs.Str.{bytes_eq};
 ghost use Rattle.std.specs.Str.Parse.{digits_value};
+ghost use Rattle.cell_addr.specs.Cells.{is_colon};
 ghost use Rattle.script_read.specs.Forms.{CutsWord};
 ghost use Rattle.script_read.specs.Words.{is_name, is_name_byte, is_reserved, is_space, named};
 
@@ -26,6 +27,14 @@ fn space_in(text: &[u8]) -> Option<usize>
     ensures within { IfSome result (λ space. space < length text.now) }
 {
     text.iter().position(|b| *b == b' ')
+}
+
+/// Where the first colon stands.
+pub fn colon_in(text: &[u8]) -> Option<usize>
+    ensures place { result ≡ position is_colon text.now }
+    ensures within { IfSome result (λ colon. colon < length text.now) }
+{
+    text.iter().position(|b| *b == b':')
 }
 
 pub fn is_word(text: &[u8], word: &[u8]) -> bool

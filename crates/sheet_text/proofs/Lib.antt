@@ -1,2 +1,5 @@
 pub mod Seen
 pub mod RowLines
+pub mod ValueLines
+pub mod Appended
+pub mod Within

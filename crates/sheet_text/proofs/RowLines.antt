@@ -1,8 +1,8 @@
 -- The lines of a row's filled cells, and those of all rows.
-use Rattle.std.proofs.Common.{◌≡◌, ℕ, zero, suc, ◌+◌, ◌-◌, ◌<◌, ◌≤◌, Bool, true, false, cond, List, [], ◌∷◌, ◌++◌, length, drop, All, refl, ap, sym, ◌∙◌, subst, arith, append_assoc}
+use Rattle.std.proofs.Common.{◌≡◌, ℕ, zero, suc, ◌+◌, ◌<◌, ◌≤◌, Bool, true, false, cond, List, [], ◌∷◌, ◌++◌, length, drop, All, refl, ap, sym, ◌∙◌, subst, arith, append_assoc}
 use Rattle.std.proofs.lemmas.Bool.Decides.{nat_tests}
 use Rattle.std.proofs.lemmas.List.Elements.{All-filter}
-use Rattle.std.specs.Prelude.{nat_eq, not, filter, slice_get, slice_index, map, decimal, IfSome, Option, None, Some}
+use Rattle.std.specs.Prelude.{nat_eq, not, filter, slice_get, slice_index, map, decimal, IfSome, Option, Some}
 use Rattle.ss_base.specs.declared.types.Spot.{Spot}
 use Rattle.ss_base.specs.declared.types.Span.{Span}
 use Rattle.marked_lines.specs.Marks.{visible_places, visible_of, span_of}
@@ -90,21 +90,27 @@ cell_line-filled : (row col : ℕ) (text : List ℕ) → 0 < length text → cel
 cell_line-filled row col [] h = absurd (omega arith)
 cell_line-filled row col (b ∷ text) h = refl
 
-regrouped : (o a b t : List ℕ) → (((o ++ a) ++ (b ++ 32 ∷ [])) ++ t) ++ 10 ∷ [] ≡ o ++ ((a ++ b) ++ 32 ∷ t ++ 10 ∷ [])
-regrouped o a b t = simp append_assoc
+regrouped : (o a t : List ℕ) → (((o ++ a) ++ 32 ∷ []) ++ t) ++ 10 ∷ [] ≡ o ++ (a ++ 32 ∷ t ++ 10 ∷ [])
+regrouped o a t = simp append_assoc
 
 pub some_text : (text : List ℕ) → nat_eq (length text) 0 ≡ false → 0 < length text
 some_text text h = grind (arith, nat_tests)
 
-pub filled_line : (row col : ℕ) (text out one two three four name rest : List ℕ) → 0 < length text → name ≡ letters col → one ≡ out ++ name → rest ≡ decimal (row + 1) ++ 32 ∷ [] → two ≡ one ++ rest →
-    three ≡ two ++ text → four ≡ three ++ 10 ∷ [] → four ≡ out ++ cell_line row col text
-filled_line row col text out one two three four name rest some n o r t s f =
+pub filled_line : (row col : ℕ) (text out one two three four : List ℕ) → 0 < length text → one ≡ out ++ address row col → two ≡ one ++ 32 ∷ [] → three ≡ two ++ text → four ≡ three ++ 10 ∷ [] → four ≡ out ++ cell_line row col text
+filled_line row col text out one two three four some o s t f =
     f
-    ∙ ((λ i. s i ++ 10 ∷ [])
-    ∙ ((λ i. (t i ++ text) ++ 10 ∷ [])
-    ∙ ((λ i. ((o i ++ r i) ++ text) ++ 10 ∷ [])
-    ∙ ((λ i. (((out ++ n i) ++ (decimal (row + 1) ++ 32 ∷ [])) ++ text) ++ 10 ∷ [])
-    ∙ (regrouped out (letters col) (decimal (row + 1)) text ∙ ap (λ (zs : List ℕ). out ++ zs) (sym (cell_line-filled row col text some)))))))
+    ∙ ((λ i. t i ++ 10 ∷ [])
+    ∙ ((λ i. (s i ++ text) ++ 10 ∷ [])
+    ∙ ((λ i. ((o i ++ 32 ∷ []) ++ text) ++ 10 ∷ [])
+    ∙ (regrouped out (address row col) text ∙ ap (λ (zs : List ℕ). out ++ zs) (sym (cell_line-filled row col text some))))))
+
+-- the letters of a column and a number behind them
+pub address_put : (row col : ℕ) (out one two name rest : List ℕ) → name ≡ letters col → one ≡ out ++ name → rest ≡ decimal (row + 1) → two ≡ one ++ rest → two ≡ out ++ address row col
+address_put row col out one two name rest n o r t =
+    t
+    ∙ ((λ i. o i ++ r i)
+    ∙ ((λ i. (out ++ n i) ++ decimal (row + 1))
+    ∙ append_assoc out (letters col) (decimal (row + 1))))
 
 -- ---- every formula of a sheet that isn't too large can be shown
 pub seen_mapped : (P : PlacedSheet) → length P.rows ≤ 16000 → length P.cols ≤ 16000 → (t : Tree Spot Span) → IsMapped (seen P.rows P.cols) t

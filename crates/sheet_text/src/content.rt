@@ -27,7 +27,7 @@ pub fn text_of(alloc: Global, sheet: &Sheet, content: Content) -> Result<Txt, Me
 }
 
 /// A text, with `'` before it where it would be something else without.
-fn marked(alloc: Global, text: Txt) -> Result<Txt, Memory>
+pub(crate) fn marked(alloc: Global, text: Txt) -> Result<Txt, Memory>
     ensures { IfOk result (λ t. t ≡ (if is_plain text then text else 39 ∷ text)) }
 {
     if is_plain(text.bytes()) {

@@ -1,4 +1,5 @@
 ghost use Rattle.std.specs.Prelude.{◌≡◌, ◌<◌, ◌≤◌, ◌++◌, length, map, IfOk, OnOk};
+ghost use Rattle.cell_addr.specs.Cells.{address};
 ghost use Rattle.marked_lines.specs.Marks.{visible_places, visible_of};
 ghost use Rattle.sheet_ops.specs.Placed.{cell_at};
 ghost use Rattle.sheet_grid.specs.Values.{placed_in};
@@ -71,26 +72,42 @@ fn push_if_seen(
 }
 
 /// Appends the line of a text by its visible row and column; an empty text has none.
-fn push_cell(
+pub(crate) fn push_cell(
     alloc: Global,
     out: &mut Vec<u8>,
     row: u32,
     col: u32,
     text: &[u8],
 ) -> Result<(), Memory>
-    requires row { row < 16000 }
-    requires col { col < 16000 }
+    requires row { row < 9999999 }
+    requires col { col < 18278 }
     ensures { OnOk result (out.new.items ≡ out.old.items ++ cell_line row col text.now) }
 {
     if text.is_empty() {
         return Ok(());
     }
-    let mut letters = [0; 4];
-    let count = letters_of(col, &mut letters);
-    let number = format!(in alloc; "{} ", row + 1)?;
-    out.extend_from_slice(&letters[..count])?;
-    out.extend_from_slice(number.as_bytes())?;
+    push_address(alloc, out, row, col)?;
+    out.push(b' ')?;
     out.extend_from_slice(text)?;
     out.push(b'\n')?;
+    Ok(())
+}
+
+/// Appends an address by its visible row and column.
+pub(crate) fn push_address(
+    alloc: Global,
+    out: &mut Vec<u8>,
+    row: u32,
+    col: u32,
+) -> Result<(), Memory>
+    requires row { row < 9999999 }
+    requires col { col < 18278 }
+    ensures { OnOk result (out.new.items ≡ out.old.items ++ address row col) }
+{
+    let mut letters = [0; 4];
+    let count = letters_of(col, &mut letters);
+    let number = format!(in alloc; "{}", row + 1)?;
+    out.extend_from_slice(&letters[..count])?;
+    out.extend_from_slice(number.as_bytes())?;
     Ok(())
 }

@@ -1,4 +1,4 @@
-use Rattle.std.proofs.Common.{◌≡◌, ◌<◌, ◌∙◌, ◌++◌, ℕ, List, ap, sym, subst, refl, length, get_or, All}
+use Rattle.std.proofs.Common.{◌<◌, ◌∙◌, ◌++◌, ℕ, List, ap, sym, subst, refl, length, get_or, All}
 use Rattle.sheet_grid.specs.Values.{placed_in}
 use Rattle.sheet_text.specs.Rows.{lines_at}
 use Rattle.sheet_text.proofs.RowLines.{filled_lines, filled_inside, told_more, told_all}
