@@ -1,14 +1,12 @@
 -- What the messages of a valid run come to.
-use Rattle.std.proofs.Common.{◌≡◌, ℕ, suc, ◌+◌, ◌<◌, ◌≤◌, List, [], ◌∷◌, ◌++◌, length, take, drop, refl, ap, sym, ◌∙◌, subst, arith, Some}
+use Rattle.std.proofs.Common.{◌≡◌, ℕ, suc, ◌+◌, ◌<◌, ◌≤◌, List, [], ◌∷◌, ◌++◌, drop, ap, sym, ◌∙◌, subst, arith, Some}
 use Rattle.std.specs.Prelude.{slice_get}
-use Rattle.std.proofs.lemmas.List.{length-append, take-append-drop}
+use Rattle.std.proofs.lemmas.List.{take-append-drop}
 use Rattle.ss_base.specs.declared.types.Size.{Size}
-use Rattle.ss_base.specs.Lists.{IsPrefixOf}
 use Rattle.sheet_ops.specs.declared.operation.Entry.{Entry}
 use Rattle.sheet_ops.specs.declared.operation.Effect.{Effect}
 use Rattle.sheet_ops.specs.History.{own_entries, IsValidHistory}
 use Rattle.sheet_ops.specs.Represents.{ClientState, ClientRepresents, ServerState}
-use Rattle.sheet_ops.proofs.Counts.{own_front}
 use Rattle.sheet_ops.proofs.Lengths.{valid_few}
 use Rattle.jup_client.specs.declared.Down.{Down}
 use Rattle.jup_client.specs.declared.Down.TheVariants as message

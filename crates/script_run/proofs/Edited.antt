@@ -1,5 +1,5 @@
 -- A run after an edit, a run with a site more, and what is shown of a site.
-use Rattle.std.proofs.Common.{◌≡◌, ◌≢◌, ℕ, suc, ◌+◌, ◌-◌, ◌<◌, ◌≤◌, Bool, true, false, cond, List, [], ◌∷◌, ◌++◌, length, take, drop, refl, ap, sym, ◌∙◌, subst, arith, inl, inr, Option, Some, None, Ok, Err, max}
+use Rattle.std.proofs.Common.{◌≡◌, ◌≢◌, ℕ, suc, ◌+◌, ◌-◌, ◌<◌, ◌≤◌, Bool, true, false, cond, List, [], ◌∷◌, ◌++◌, length, take, refl, ap, sym, ◌∙◌, subst, arith, inl, inr, Some, Ok, Err}
 use Rattle.std.specs.Prelude.{◌⊎◌, Result, OnOk, OnErr, nat_lt, nat_le, reverse, slice_get, slice_set, slice_index_or}
 use Rattle.std.proofs.lemmas.Bool.Decides.{nat_tests}
 use Rattle.std.proofs.lemmas.List.{length-append, length-reverse, take-append-le}
@@ -12,26 +12,29 @@ use Rattle.sheet_ops.specs.declared.edit.EditErr.TheVariants as fault
 use Rattle.sheet_ops.specs.declared.operation.Entry.{Entry}
 use Rattle.sheet_ops.specs.declared.operation.Effect.{Effect}
 use Rattle.sheet_ops.specs.declared.operation.Intent.{Intent}
+use Rattle.sheet_ops.specs.Fits.{IsWellFormed}
+use Rattle.sheet_ops.specs.Identity.{IdSheet}
 use Rattle.sheet_ops.specs.Naming.{resolve, locate}
-use Rattle.sheet_ops.specs.Placed.{PlacedSheet, placed}
+use Rattle.sheet_ops.specs.Placed.{placed}
 use Rattle.sheet_ops.specs.History.{own_entries, operations, view_of, resolved, view, sheet_of}
 use Rattle.sheet_ops.specs.Represents.{pending_of, ClientState, ClientRepresents, ServerState, ServerRepresents}
 use Rattle.sheet_ops.proofs.Counts.{operations-push}
 use Rattle.sheet_ops.proofs.Lengths.{one_of}
+use Rattle.sheet_ops.proofs.Views.{views_fresh}
 use Rattle.author_ops.specs.Edits.{intended}
 use Rattle.sheet_text.specs.Shown.{shown, shown_placed}
 use Rattle.sheet_text.specs.Texts.{sheet_text, head_text, server_head_text}
 use Rattle.sheet_text.proofs.Seen.{shown-placed}
 use Rattle.script_run.specs.declared.seat.Seat.{Seat}
 use Rattle.script_run.specs.declared.room.Room.{Room}
-use Rattle.script_run.specs.World.{World, new_seat, seat_at, put_seat, view_at, pending_at, unless_spent, decided, after_decided}
+use Rattle.script_run.specs.World.{World, new_seat, seat_at, put_seat, view_at, pending_at, keys_of, unless_spent, decided, after_decided}
 use Rattle.script_run.specs.Transcript.{show_text, server_text}
-use Rattle.script_run.specs.Rooms.{ClientStands, RoomRepresents}
+use Rattle.script_run.specs.Rooms.{ClientStands}
 use Rattle.script_run.specs.Runs.{EachOf, SeatStands, IsRun}
-use Rattle.script_run.specs.Issues.{Decides, entry_made, seat_issued, Issues}
+use Rattle.script_run.specs.Issues.{Decides, entry_made, Issues}
 use Rattle.script_run.proofs.Lists.{same_or_not, some_same, get_more-before, get_more-last, index_more-before, index_more-last}
 use Rattle.script_run.proofs.Outcomes.{on_ok}
-use Rattle.script_run.proofs.Standing.{seat_is, holds, stands, run_with, run_same}
+use Rattle.script_run.proofs.Standing.{seat_is, holds, stands, valid, run_with, run_same}
 
 -- an edit is accepted where it denotes an intent and an operation is left
 pub accepted : (issued : ℕ) (x : Result Intent EditErr) (op : Intent) → unless_spent issued x ≡ Ok op → (x ≡ Ok op) × (issued < 1000)
@@ -73,13 +76,22 @@ module _ (w : World) (es : List Effect) (r : Room) (run : IsRun w es r) (p : ℕ
   abbrev kept : SeatStands w.history (suc p) s
   kept = holds w es r run p h s at
 
-  -- the client's sheet is what the site sees
+  -- the client's view is what the site sees
+  same_view : view c.size w.history c.site c.taken s.made ≡ view_at w p
+  same_view = λ i. let t = sym seat i in view (client.sized i) w.history (client.number i) ((client.taken ∙ ap (λ (x : Seat). x.taken) (sym seat)) i) t.made
+
   sees : c.sheet ≡ placed (view_at w p)
-  sees = client.represents.sheet ∙ (λ i. let t = sym seat i in placed (view (client.sized i) w.history (client.number i) ((client.taken ∙ ap (λ (x : Seat). x.taken) (sym seat)) i) t.made))
+  sees = client.represents.sheet ∙ ap placed same_view
+
+  formed : IsWellFormed (view_at w p)
+  formed =
+      let positive : 0 < c.site = omega (arith, client.number) in
+      subst (λ (X : IdSheet). IsWellFormed X) same_view
+      (views_fresh c.size r.server.sites w.history (valid w es r run p h s at c here) c.site positive c.taken client.represents.within s.made client.represents.ordered.agrees client.represents.ordered.rises).formed
 
   -- what an edit comes to at the client it comes to in the state of the run
   pub decided_here : (e : Edit) (x : Result Intent EditErr) → Decides c e x → decided w p e ≡ x
-  decided_here e x d = ap (λ n. unless_spent n (intended (view_at w p) e [])) (ap (λ (t : Seat). operations t.made) seat ∙ sym client.represents.issued) ∙ d (view_at w p) (sym sees)
+  decided_here e x d = ap (λ n. unless_spent n (intended (view_at w p) e (keys_of (view_at w p) e))) (ap (λ (t : Seat). operations t.made) seat ∙ sym client.represents.issued) ∙ d (view_at w p) formed (sym sees)
 
   pub edited_run : (site : Site) → site.0 ≡ suc p → (e : Edit) (t : Seat) (d : ClientState) (x : Result (Unit {0}) EditErr) → OnOk x (Issues site e s t c d) → OnOk x (ClientRepresents d w.history t.made) → OnErr x ((t ≡ s) × (d ≡ c)) →
       IsRun (put_seat w p t) es (record r { clients = slice_set r.clients p d })
@@ -89,7 +101,7 @@ module _ (w : World) (es : List Effect) (r : Room) (run : IsRun w es r) (p : ℕ
   edited_run site number e t d (Ok y) ok rep err = run_with w es r run p h t d after_edit after_client
     where
       few : c.issued < 1000
-      few = (accepted c.issued (intended (view_at w p) e []) ok.intent (ok.decided (view_at w p) (sym sees))).1
+      few = (accepted c.issued (intended (view_at w p) e (keys_of (view_at w p) e)) ok.intent (ok.decided (view_at w p) formed (sym sees))).1
 
       after_edit : SeatStands w.history (suc p) t
       after_edit = subst (λ (z : Seat). SeatStands w.history (suc p) z) (sym ok.seat) (record {

@@ -1,29 +1,19 @@
 -- What an edit comes to at a client.
-use Rattle.std.proofs.Common.{◌≡◌, ℕ, ◌<◌, ◌≤◌, Bool, true, false, cond, [], refl, ap, sym, ◌∙◌, arith, Ok, Err}
+use Rattle.std.proofs.Common.{◌≡◌, ℕ, ◌<◌, Bool, true, false, cond, List, refl, ap, sym, ◌∙◌, arith, Ok, Err}
 use Rattle.std.specs.Prelude.{nat_lt, Result}
 use Rattle.std.proofs.lemmas.Bool.Decides.{nat_tests}
+use Rattle.sheet_value.specs.declared.value.Value.{Value}
 use Rattle.sheet_ops.specs.declared.edit.Edit.{Edit}
-use Rattle.sheet_ops.specs.declared.edit.Edit.TheVariants as edit
 use Rattle.sheet_ops.specs.declared.edit.EditErr.{EditErr}
 use Rattle.sheet_ops.specs.declared.edit.EditErr.TheVariants as fault
 use Rattle.sheet_ops.specs.declared.operation.Intent.{Intent}
-use Rattle.sheet_ops.specs.Placed.{PlacedSheet}
+use Rattle.sheet_ops.specs.Fits.{IsWellFormed}
+use Rattle.sheet_ops.specs.Identity.{IdSheet}
+use Rattle.sheet_ops.specs.Placed.{PlacedSheet, placed}
 use Rattle.sheet_ops.specs.Represents.{ClientState}
-use Rattle.author_ops.specs.Edits.{Denotes, IsProper}
-use Rattle.script_read.specs.Commands.{EntryWithin}
-use Rattle.script_run.specs.World.{unless_spent}
-use Rattle.script_run.specs.Issues.{Decides}
-
--- an edit that a line may ask for is one that an author may make
-pub proper : (P : PlacedSheet) (e : Edit) → EntryWithin 4096 e → IsProper P e []
-proper P (edit.Set spot entry) h = omega (arith, h)
-proper P (edit.Clear spot) h = tt
-proper P (edit.InsRow before) h = tt
-proper P (edit.InsCol before) h = tt
-proper P (edit.DelRow at) h = tt
-proper P (edit.DelCol at) h = tt
-proper P (edit.Copy from to) h = absurd h
-proper P (edit.Sort first last col down) h = absurd h
+use Rattle.author_ops.specs.Edits.{Denotes, intended}
+use Rattle.script_run.specs.World.{keys_of, unless_spent}
+use Rattle.script_run.specs.Issues.{AreKeys, Decides}
 
 spent : (n : ℕ) (op : Intent) → n ≡ 1000 → unless_spent n (Ok op) ≡ Err fault.Spent
 spent n op h = by_test (nat_lt n 1000) (let k : nat_lt n 1000 ≡ false = grind (arith, nat_tests) in k)
@@ -39,12 +29,16 @@ not_spent n op h = by_test (nat_lt n 1000) (let k : nat_lt n 1000 ≡ true = gri
     by_test true k = refl
     by_test false k = absurd (cc)
 
-module _ (c : ClientState) (e : Edit) (P : PlacedSheet) (same : P ≡ c.sheet) where
-  pub decides_ok : (op : Intent) → Denotes P e [] (Ok op) → c.issued < 1000 → Decides c e (Ok op)
-  decides_ok op d few X is = ap (unless_spent c.issued) (d X (is ∙ sym same)) ∙ not_spent c.issued op few
+module _ (c : ClientState) (e : Edit) (keys : List Value) (P : PlacedSheet) (same : P ≡ c.sheet) (serve : AreKeys P e keys) where
+  -- what an edit denotes by keys that serve it denotes by its own
+  by_own : (r : Result Intent EditErr) → Denotes P e keys r → (X : IdSheet) → IsWellFormed X → placed X ≡ c.sheet → intended X e (keys_of X e) ≡ r
+  by_own r d X formed is = sym (serve X formed (is ∙ sym same)) ∙ d X (is ∙ sym same)
 
-  pub decides_err : (x : EditErr) → Denotes P e [] (Err x) → Decides c e (Err x)
-  decides_err x d X is = ap (unless_spent c.issued) (d X (is ∙ sym same))
+  pub decides_ok : (op : Intent) → Denotes P e keys (Ok op) → c.issued < 1000 → Decides c e (Ok op)
+  decides_ok op d few X formed is = ap (unless_spent c.issued) (by_own (Ok op) d X formed is) ∙ not_spent c.issued op few
 
-  pub decides_spent : (op : Intent) → Denotes P e [] (Ok op) → c.issued ≡ 1000 → Decides c e (Err fault.Spent)
-  decides_spent op d all X is = ap (unless_spent c.issued) (d X (is ∙ sym same)) ∙ spent c.issued op all
+  pub decides_err : (x : EditErr) → Denotes P e keys (Err x) → Decides c e (Err x)
+  decides_err x d X formed is = ap (unless_spent c.issued) (by_own (Err x) d X formed is)
+
+  pub decides_spent : (op : Intent) → Denotes P e keys (Ok op) → c.issued ≡ 1000 → Decides c e (Err fault.Spent)
+  decides_spent op d all X formed is = ap (unless_spent c.issued) (by_own (Ok op) d X formed is) ∙ spent c.issued op all

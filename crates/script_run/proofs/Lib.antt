@@ -6,5 +6,10 @@ pub mod Effects
 pub mod Standing
 pub mod Edited
 pub mod Issued
+pub mod Keying
+pub mod Fronts
+pub mod Publishes
+pub mod Histories
+pub mod NeverBack
 pub mod Worlds
 pub mod Turns

@@ -1,5 +1,5 @@
 -- Elements of lists by their places.
-use Rattle.std.proofs.Common.{◌≡◌, ◌≢◌, ℕ, zero, suc, ◌+◌, ◌<◌, ◌≤◌, List, [], ◌∷◌, ◌++◌, length, take, drop, refl, ap, sym, ◌∙◌, arith, inl, inr, Option, Some, None}
+use Rattle.std.proofs.Common.{◌≡◌, ◌≢◌, ℕ, zero, suc, ◌<◌, ◌≤◌, List, [], ◌∷◌, ◌++◌, length, take, drop, refl, ap, sym, arith, Some, None}
 use Rattle.std.specs.Prelude.{◌⊎◌, slice_get, slice_set, slice_index_or}
 
 pub same_or_not : (m n : ℕ) → (m ≡ n) ⊎ (m ≢ n)
@@ -56,6 +56,12 @@ module _ {A : Type 0} where
   there [] i h = absurd (omega arith)
   there (y ∷ xs) zero h = (y, refl)
   there (y ∷ xs) (suc i) h = there xs i (omega arith)
+
+  -- what is there put there again
+  pub set_there : (xs : List A) (i : ℕ) (x : A) → slice_get xs i ≡ Some x → slice_set xs i x ≡ xs
+  set_there [] i x e = absurd (cc)
+  set_there (y ∷ xs) zero x e = let same : y ≡ x = cc in ap (λ z. z ∷ xs) (sym same)
+  set_there (y ∷ xs) (suc i) x e = ap (λ (zs : List A). y ∷ zs) (set_there xs i x e)
 
   -- nothing is there only past the end
   pub past_end : (xs : List A) (i : ℕ) → None ≡ slice_get xs i → length xs ≤ i

@@ -1,8 +1,8 @@
 -- One place of a run, and the run with its seat and its client changed.
-use Rattle.std.proofs.Common.{◌≡◌, ◌≢◌, ℕ, zero, suc, ◌+◌, ◌-◌, ◌*◌, ◌<◌, ◌≤◌, true, false, List, [], ◌∷◌, ◌++◌, length, take, drop, refl, ap, sym, ◌∙◌, subst, arith, inl, inr, Option, Some, None, min, max}
+use Rattle.std.proofs.Common.{◌≡◌, ◌≢◌, ℕ, suc, ◌+◌, ◌-◌, ◌<◌, ◌≤◌, true, false, List, [], ◌∷◌, ◌++◌, length, take, drop, refl, ap, sym, ◌∙◌, subst, arith, inl, inr, Some, min, max}
 use Rattle.std.specs.Prelude.{◌⊎◌, nat_eq, slice_get, slice_set, slice_index_or}
 use Rattle.std.proofs.lemmas.Bool.Decides.{nat_tests}
-use Rattle.std.proofs.lemmas.List.{length-append, length-set, get_or-set_same, get_or-set_other, get_or_default, take-append-drop}
+use Rattle.std.proofs.lemmas.List.{length-append, length-set, get_or-set_same, get_or-set_other, get_or_default}
 use Rattle.std.proofs.lemmas.Option.{slice_get_read, slice_get_within}
 use Rattle.ss_base.specs.declared.types.Size.{Size}
 use Rattle.ss_base.specs.Lists.{IsPrefixOf}
@@ -16,9 +16,9 @@ use Rattle.sheet_ops.proofs.Lengths.{valid_few}
 use Rattle.jup_client.proofs.Longer.{goes_on}
 use Rattle.script_run.specs.declared.seat.Seat.{Seat}
 use Rattle.script_run.specs.declared.room.Room.{Room}
-use Rattle.script_run.specs.World.{World, new_seat, seat_at, put_seat, site_count, pushed}
-use Rattle.script_run.specs.Rooms.{ClientStands, RoomRepresents}
-use Rattle.script_run.specs.Runs.{EachOf, SeatStands, AreEffectsOf, IsRun}
+use Rattle.script_run.specs.World.{World, new_seat, seat_at, put_seat, pushed}
+use Rattle.script_run.specs.Rooms.{ClientStands}
+use Rattle.script_run.specs.Runs.{SeatStands, AreEffectsOf, IsRun}
 use Rattle.script_run.specs.Deliveries.{MaySubmit, MayTake}
 use Rattle.script_run.proofs.Lists.{same_or_not, some_same, get_set-same, get_set-other, drop-at, take-at, there}
 use Rattle.script_run.proofs.Effects.{effects_more}

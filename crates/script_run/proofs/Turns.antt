@@ -1,10 +1,9 @@
 -- What stays declared, and what a command that no fault fits does.
-use Rattle.std.proofs.Common.{◌≡◌, ℕ, zero, suc, ◌+◌, ◌-◌, ◌<◌, ◌≤◌, Bool, true, false, cond, List, [], ◌∷◌, ◌++◌, length, refl, ap, sym, ◌∙◌, subst, arith, Option, Some, None, Ok, Err}
-use Rattle.std.specs.Prelude.{map, not, nat_lt, ◌||◌, is_some, slice_set, slice_index_or, Result}
+use Rattle.std.proofs.Common.{◌≡◌, ℕ, zero, suc, ◌+◌, ◌-◌, ◌<◌, Bool, true, false, cond, List, [], ◌∷◌, ◌++◌, length, refl, ap, sym, ◌∙◌, arith, Option, Some, None, Ok, Err}
+use Rattle.std.specs.Prelude.{map, nat_lt, ◌||◌, is_some, slice_set, slice_index_or, Result}
 use Rattle.std.specs.Str.{bytes_eq}
 use Rattle.std.proofs.lemmas.Bool.Decides.{nat_tests}
 use Rattle.std.proofs.lemmas.List.{length-map}
-use Rattle.sheet_ops.specs.declared.edit.Edit.{Edit}
 use Rattle.sheet_ops.specs.declared.edit.EditErr.{EditErr}
 use Rattle.sheet_ops.specs.declared.operation.Intent.{Intent}
 use Rattle.script_read.specs.declared.command.Command.{Command}
@@ -14,9 +13,9 @@ use Rattle.script_read.specs.declared.script.ScriptKind.TheVariants as kind
 use Rattle.script_read.specs.Commands.{IsWithin}
 use Rattle.script_read.specs.Script.{Declared, LineTurn, goes, stops, ended, refused_at, is_declared, without_sheet, without_site, fault_of, declared_with, turn_accepted, turn_of, turn_of_line}
 use Rattle.script_run.specs.declared.seat.Seat.{Seat}
-use Rattle.script_run.specs.World.{World, no_world, new_seat, seat_at, put_seat, place_in, place_of, at_most, pushed, pulled, at_each, decided, after_decided, after}
+use Rattle.script_run.specs.World.{World, new_seat, seat_at, put_seat, place_in, place_of, at_most, pushed, pulled, reading, at_each, decided, after_decided, after}
 use Rattle.script_run.specs.Transcript.{printed}
-use Rattle.script_run.specs.States.{Table, table_of, IsState, HasSite, MayStep, StepGives, run_opened, closes, is_end}
+use Rattle.script_run.specs.States.{table_of, IsState, HasSite, MayStep, StepGives, run_opened, closes, is_end}
 use Rattle.script_run.proofs.Worlds.{position-any, position-map}
 
 -- ---- the turn of a command by its fault
@@ -46,6 +45,12 @@ accepted_end d (command.Push name count) e = absurd (cc)
 accepted_end d (command.Pull name count) e = absurd (cc)
 accepted_end d command.PushAll e = absurd (cc)
 accepted_end d command.PullAll e = absurd (cc)
+accepted_end d (command.Sync name) e = absurd (cc)
+accepted_end d (command.Recalc count) e = absurd (cc)
+accepted_end d (command.Read name range) e = absurd (cc)
+accepted_end d command.Values e = absurd (cc)
+accepted_end d command.History e = absurd (cc)
+accepted_end d command.Wire e = absurd (cc)
 accepted_end d (command.Show name) e = absurd (cc)
 accepted_end d command.ShowServer e = absurd (cc)
 
@@ -59,6 +64,12 @@ accepted_other d (command.Push name count) e = refl
 accepted_other d (command.Pull name count) e = refl
 accepted_other d command.PushAll e = refl
 accepted_other d command.PullAll e = refl
+accepted_other d (command.Sync name) e = refl
+accepted_other d (command.Recalc count) e = refl
+accepted_other d (command.Read name range) e = refl
+accepted_other d command.Values e = refl
+accepted_other d command.History e = refl
+accepted_other d command.Wire e = refl
 accepted_other d (command.Show name) e = refl
 accepted_other d command.ShowServer e = refl
 
@@ -90,6 +101,12 @@ ended_open d n (Some c) e = by_kind (fault_of d c) refl (sym (by_fault d n c (fa
     at_end (command.Pull name count) a f = absurd (cc)
     at_end command.PushAll a f = absurd (cc)
     at_end command.PullAll a f = absurd (cc)
+    at_end (command.Sync name) a f = absurd (cc)
+    at_end (command.Recalc count) a f = absurd (cc)
+    at_end (command.Read name range) a f = absurd (cc)
+    at_end command.Values a f = absurd (cc)
+    at_end command.History a f = absurd (cc)
+    at_end command.Wire a f = absurd (cc)
     at_end (command.Show name) a f = absurd (cc)
     at_end command.ShowServer a f = absurd (cc)
 
@@ -118,6 +135,9 @@ sites-pushed w p n = let s = seat_at w p in let count = at_most n (length s.made
 sites-pulled : (w : World) (p : ℕ) (n : Option ℕ) → sites_of (pulled w p n) ≡ sites_of w
 sites-pulled w p n = let s = seat_at w p in sites-put w p (record s { taken = s.taken + at_most n (length w.history - s.taken) }) refl
 
+sites-reading : (w : World) (p : ℕ) → sites_of (reading w p) ≡ sites_of w
+sites-reading w p = sites-put w p (record (seat_at w p) { read = w.published }) refl
+
 sites-decided : (w : World) (p : ℕ) (x : Result Intent EditErr) → sites_of (after_decided w p x) ≡ sites_of w
 sites-decided w p (Err e) = refl
 sites-decided w p (Ok op) = let s = seat_at w p in sites-put w p (record s { made = s.made ++ record { site = record { 0 = suc p }; seen = s.taken; intent = op } ∷ [] }) refl
@@ -144,6 +164,12 @@ opened_state (command.Push name count) closed h = refl
 opened_state (command.Pull name count) closed h = refl
 opened_state command.PushAll closed h = refl
 opened_state command.PullAll closed h = refl
+opened_state (command.Sync name) closed h = refl
+opened_state (command.Recalc count) closed h = refl
+opened_state (command.Read name range) closed h = refl
+opened_state command.Values closed h = refl
+opened_state command.History closed h = refl
+opened_state command.Wire closed h = refl
 opened_state (command.Show name) closed h = refl
 opened_state command.ShowServer closed h = refl
 opened_state command.End closed h = refl
@@ -157,6 +183,12 @@ opened_gives closed n (command.Push name count) f = absurd (cc)
 opened_gives closed n (command.Pull name count) f = absurd (cc)
 opened_gives closed n command.PushAll f = absurd (cc)
 opened_gives closed n command.PullAll f = absurd (cc)
+opened_gives closed n (command.Sync name) f = absurd (cc)
+opened_gives closed n (command.Recalc count) f = absurd (cc)
+opened_gives closed n (command.Read name range) f = absurd (cc)
+opened_gives closed n command.Values f = absurd (cc)
+opened_gives closed n command.History f = absurd (cc)
+opened_gives closed n command.Wire f = absurd (cc)
 opened_gives closed n (command.Show name) f = absurd (cc)
 opened_gives closed n command.ShowServer f = absurd (cc)
 opened_gives closed n command.End f = absurd (cc)
@@ -213,6 +245,12 @@ module _ (w : World) (closed : Bool) where
   may_step (command.Pull name count) state within f = has_site name f
   may_step command.PushAll state within f = tt
   may_step command.PullAll state within f = tt
+  may_step (command.Sync name) state within f = has_site name f
+  may_step (command.Recalc count) state within f = tt
+  may_step (command.Read name range) state within f = (has_site name f, within.0, within.1)
+  may_step command.Values state within f = tt
+  may_step command.History state within f = tt
+  may_step command.Wire state within f = tt
   may_step (command.Show name) state within f = has_site name f
   may_step command.ShowServer state within f = tt
   may_step command.End state within f = tt
@@ -241,6 +279,12 @@ module _ (w : World) (closed : Bool) where
   declared_after (command.Pull name count) f = λ i. record d { sites = sites-pulled w (place_of w name) count i; closed = now_closed i }
   declared_after command.PushAll f = λ i. record d { sites = sites-each (λ v p. pushed v p None) (λ v p. sites-pushed v p None) 0 (length w.seats) w i; closed = now_closed i }
   declared_after command.PullAll f = λ i. record d { sites = sites-each (λ v p. pulled v p None) (λ v p. sites-pulled v p None) 0 (length w.seats) w i; closed = now_closed i }
+  declared_after (command.Sync name) f = λ i. record d { sites = sites-pushed w (place_of w name) None i; closed = now_closed i }
+  declared_after (command.Recalc count) f = λ i. record d { closed = now_closed i }
+  declared_after (command.Read name range) f = λ i. record d { sites = sites-reading w (place_of w name) i; closed = now_closed i }
+  declared_after command.Values f = λ i. record d { closed = now_closed i }
+  declared_after command.History f = λ i. record d { closed = now_closed i }
+  declared_after command.Wire f = λ i. record d { closed = now_closed i }
   declared_after (command.Show name) f = λ i. record d { closed = now_closed i }
   declared_after command.ShowServer f = λ i. record d { closed = now_closed i }
   declared_after command.End f = λ i. record d { closed = now_closed i }
@@ -258,6 +302,12 @@ module _ (w : World) (closed : Bool) where
   history_stays (command.Pull name count) e = absurd (cc)
   history_stays command.PushAll e = absurd (cc)
   history_stays command.PullAll e = absurd (cc)
+  history_stays (command.Sync name) e = absurd (cc)
+  history_stays (command.Recalc count) e = absurd (cc)
+  history_stays (command.Read name range) e = absurd (cc)
+  history_stays command.Values e = absurd (cc)
+  history_stays command.History e = absurd (cc)
+  history_stays command.Wire e = absurd (cc)
   history_stays (command.Show name) e = absurd (cc)
   history_stays command.ShowServer e = absurd (cc)
   history_stays command.End e = absurd (cc)

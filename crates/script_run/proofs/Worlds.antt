@@ -8,7 +8,7 @@ use Rattle.std.proofs.Math.Seq.{take-add}
 use Rattle.sheet_ops.specs.declared.operation.Entry.{Entry}
 use Rattle.sheet_ops.proofs.Overwritten.{set_twice}
 use Rattle.script_run.specs.declared.seat.Seat.{Seat}
-use Rattle.script_run.specs.World.{World, new_seat, seat_at, put_seat, at_most, pushed, pulled, at_each}
+use Rattle.script_run.specs.World.{World, new_seat, seat_at, put_seat, at_most, pushed, pulled, recalculated, at_each}
 
 module _ {A : Type 0} where
   pub set_back : (xs : List A) (i : ℕ) (d : A) → slice_set xs i (slice_index_or xs i d) ≡ xs
@@ -95,6 +95,21 @@ module _ (w : World) (p : ℕ) where
   pub pushed-all : (most : Option ℕ) → pushed w p (Some (at_most most (length s.made - s.pushed))) ≡ pushed w p most
   pushed-all None = let e : min (length s.made - s.pushed) (length s.made - s.pushed) ≡ length s.made - s.pushed = omega arith in ap after_push e
   pushed-all (Some n) = let left = length s.made - s.pushed in let e : min (min n left) left ≡ min n left = omega arith in ap after_push e
+
+-- the same of what is published
+module _ (w : World) where
+  pub recalculated-none : w ≡ recalculated w (Some 0)
+  recalculated-none = let z : w.published ≡ w.published + min 0 (length w.history - w.published) = omega arith in λ i. record w { published = z i }
+
+  pub recalculated-more : (k : ℕ) → k < length w.history - w.published → recalculated (recalculated w (Some k)) (Some 1) ≡ recalculated w (Some (k + 1))
+  recalculated-more k more =
+      let left = length w.history - w.published in
+      let count : (w.published + min k left) + min 1 (length w.history - (w.published + min k left)) ≡ w.published + min (k + 1) left = omega (arith, more) in
+      λ i. record w { published = count i }
+
+  pub recalculated-all : (most : Option ℕ) → recalculated w (Some (at_most most (length w.history - w.published))) ≡ recalculated w most
+  recalculated-all None = let left = length w.history - w.published in let e : min left left ≡ left = omega arith in λ i. record w { published = w.published + e i }
+  recalculated-all (Some n) = let left = length w.history - w.published in let e : min (min n left) left ≡ min n left = omega arith in λ i. record w { published = w.published + e i }
 
 -- one place more
 pub at_each-more : (does : World → ℕ → World) (first count : ℕ) (w : World) → does (at_each does first count w) (first + count) ≡ at_each does first (count + 1) w

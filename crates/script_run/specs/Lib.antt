@@ -1,5 +1,6 @@
 pub mod World
 pub mod Transcript
+pub mod Publishing
 pub mod Rooms
 pub mod Runs
 pub mod Deliveries

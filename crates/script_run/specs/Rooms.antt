@@ -1,5 +1,5 @@
 -- What the server and the clients of a run represent.
-use Rattle.std.specs.Prelude.{ℕ, suc, ◌≡◌, List, length, slice_get, Option, Some}
+use Rattle.std.specs.Prelude.{ℕ, suc, ◌≡◌, List, length, slice_get, Some}
 use Rattle.ss_base.specs.declared.types.Size.{Size}
 use Rattle.sheet_ops.specs.declared.operation.Entry.{Entry}
 use Rattle.sheet_ops.specs.Represents.{ClientState, ClientRepresents, ServerRepresents}

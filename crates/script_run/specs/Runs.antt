@@ -1,10 +1,16 @@
 -- What a run keeps beside its room.
-use Rattle.std.specs.Prelude.{ℕ, suc, ◌≡◌, ◌≤◌, ◌<◌, List, [], ◌∷◌, length, take, slice_get, Option, Some}
+use Rattle.std.specs.Prelude.{ℕ, suc, ◌≡◌, ◌≤◌, ◌<◌, List, [], ◌∷◌, length, take, slice_get, Some, true}
 use Rattle.ss_base.specs.declared.types.Size.{Size}
 use Rattle.sheet_ops.specs.declared.operation.Entry.{Entry}
 use Rattle.sheet_ops.specs.declared.operation.Effect.{Effect}
 use Rattle.sheet_ops.specs.History.{own_entries, operations}
 use Rattle.sheet_ops.specs.Published.{effect_at}
+use Rattle.sheet_ops.specs.Identity.{IdSheet}
+use Rattle.sheet_ops.specs.Placed.{placed}
+use Rattle.sheet_ops.specs.Represents.{sheet_at}
+use Rattle.sheet_grid.specs.Values.{placed_in}
+use Rattle.full_calc.specs.Values.{value_table}
+use Rattle.script_run.specs.declared.published.Published.{Published}
 use Rattle.script_run.specs.declared.seat.Seat.{Seat}
 use Rattle.script_run.specs.declared.room.Room.{Room}
 use Rattle.script_run.specs.World.{World, seat_at}
@@ -35,3 +41,18 @@ pub record IsRun (w : World) (effects : List Effect) (r : Room) : Type 0 where
   pub effects_of : AreEffectsOf w.size w.history effects
   pub seats : (p : ℕ) → p < length w.seats → SeatStands w.history (suc p) (seat_at w p)
   pub room : RoomRepresents w r
+
+-- a sheet, and its values where those that are kept are current
+pub record PublishedIs (X : IdSheet) (p : Published) : Type 0 where
+  pub sheet : placed X ≡ placed_in p.sheet
+  pub values : p.is_current ≡ true → p.values ≡ value_table X
+
+-- those after so many entries of the history
+pub record PublishedStands (size : Size) (H : List Entry) (p : Published) : Type 0 where
+  pub within : p.length ≤ length H
+  pub is : PublishedIs (sheet_at size H p.length) p
+
+-- the whole of a run
+pub record RunStands (w : World) (effects : List Effect) (r : Room) (p : Published) : Type 0 where
+  pub run : IsRun w effects r
+  pub published : PublishedStands w.size w.history p

@@ -1,11 +1,11 @@
 -- What one line does to a script's state.
-use Rattle.std.specs.Prelude.{ℕ, ◌≡◌, ◌≢◌, Result, Ok, Err, Bool, true, false, List, [], map, Option, Some, None, is_some, length, ◌<◌}
+use Rattle.std.specs.Prelude.{ℕ, ◌≡◌, ◌≢◌, Result, Ok, Err, Bool, true, false, List, [], map, Option, Some, None, is_some, length, ◌<◌, ◌≤◌}
 use Rattle.sheet_ops.specs.declared.edit.EditErr.{EditErr}
 use Rattle.sheet_ops.specs.declared.edit.EditErr.TheVariants as fault
 use Rattle.sheet_text.specs.Texts.{refusal_text}
 use Rattle.script_read.specs.declared.command.Command.{Command}
 use Rattle.script_read.specs.declared.command.Command.TheVariants as command
-use Rattle.script_read.specs.Commands.{command_of, EntryWithin}
+use Rattle.script_read.specs.Commands.{command_of, EditWithin}
 use Rattle.script_read.specs.Script.{Declared, nothing_declared, LineTurn, goes, stops, ended, refused, declared_with, turn_of, turn_of_line}
 use Rattle.script_run.specs.declared.state.Outcome.{Outcome}
 use Rattle.script_run.specs.declared.state.Outcome.TheVariants as outcome
@@ -49,9 +49,11 @@ HasSite w name = is_some (place_in w.seats name) ≡ true
 abbrev pub MayStep : World → Command → Type 0
 MayStep w (command.Sheet size) = ⊥
 MayStep w (command.Site name) = (length w.seats < 8) × (w.history ≡ [])
-MayStep w (command.Edit name e) = HasSite w name × EntryWithin 4096 e
+MayStep w (command.Edit name e) = HasSite w name × EditWithin 4096 e
 MayStep w (command.Push name n) = HasSite w name
 MayStep w (command.Pull name n) = HasSite w name
+MayStep w (command.Sync name) = HasSite w name
+MayStep w (command.Read name range) = HasSite w name × (range.top ≤ range.bottom) × (range.left ≤ range.right)
 MayStep w (command.Show name) = HasSite w name
 MayStep w _ = Unit {0}
 

@@ -1,12 +1,25 @@
 -- What a run prints.
-use Rattle.std.specs.Prelude.{ℕ, List, [], ◌∷◌, ◌++◌, length, Result, Ok, Err}
+use Rattle.std.specs.Prelude.{ℕ, nat_lt, ◌&&◌, if◌then◌else◌, List, [], ◌∷◌, ◌++◌, length, map, take, Result, Ok, Err}
+use Rattle.std.specs.List.{range_with_len}
+use Rattle.ss_base.specs.declared.types.Size.{Size}
+use Rattle.ss_base.specs.declared.types.Span.{Span}
 use Rattle.sheet_ops.specs.declared.edit.EditErr.{EditErr}
+use Rattle.sheet_ops.specs.declared.edit.EditErr.TheVariants as fault
+use Rattle.sheet_ops.specs.declared.operation.Effect.{Effect}
+use Rattle.sheet_ops.specs.declared.operation.Entry.{Entry}
 use Rattle.sheet_ops.specs.declared.operation.Intent.{Intent}
+use Rattle.sheet_ops.specs.Identity.{IdSheet}
 use Rattle.sheet_ops.specs.History.{sheet_of}
+use Rattle.sheet_ops.specs.Published.{effect_at}
+use Rattle.sheet_value.specs.Tables.{Table}
+use Rattle.author_ops.specs.Copies.{line_count}
+use Rattle.full_calc.specs.Values.{value_table}
 use Rattle.sheet_text.specs.Shown.{shown}
 use Rattle.script_read.specs.declared.command.Command.{Command}
 use Rattle.script_read.specs.declared.command.Command.TheVariants as command
 use Rattle.sheet_text.specs.Texts.{sheet_text, head_text, server_head_text, refusal_text}
+use Rattle.sheet_text.specs.Operations.{history_text, wire_text}
+use Rattle.sheet_text.specs.Values.{values_text, values_head_text, read_head_text}
 use Rattle.script_run.specs.World.{World, no_world, place_of, seat_at, view_at, pending_at, decided, after}
 
 -- of an edit the line of its refusal alone
@@ -22,9 +35,39 @@ show_text w p = let S = shown (view_at w p) in sheet_text (head_text (seat_at w 
 abbrev pub server_text : World → List ℕ
 server_text w = let S = shown (sheet_of w.size w.history) in sheet_text (server_head_text (length w.history) S) S
 
+-- the sheet of the entries that are published, and its values; no proof looks into them but where it says so
+abbrev pub published_sheet : World → IdSheet
+published_sheet w = sheet_of w.size (take w.published w.history)
+
+unfoldable pub published_values : World → Table
+published_values w = value_table (published_sheet w)
+
+-- all values, evaluated at a length of the history
+abbrev pub all_text : ℕ → Table → List ℕ
+all_text length T = values_text (values_head_text length T.size) T (range_with_len 0 T.size.rows) (range_with_len 0 T.size.cols)
+
+-- those in a range, for a site by its name, or the line of a refusal where the range isn't in the visible sheet
+abbrev pub range_values_text : ℕ → List ℕ → Span → ℕ → Table → List ℕ
+range_values_text line name range length T =
+    if nat_lt range.bottom T.size.rows && nat_lt range.right T.size.cols
+    then values_text (read_head_text name length range) T (range_with_len range.top (line_count range.top range.bottom)) (range_with_len range.left (line_count range.left range.right))
+    else refusal_text line fault.OutOfSheet
+
+-- the names of the sites, in the order in which they were declared
+abbrev pub site_names : World → List (List ℕ)
+site_names w = map (λ s. s.name) w.seats
+
+-- what each entry of a history does to the sheet after the entries before it
+abbrev pub effects : Size → List Entry → List Effect
+effects size H = map (effect_at size H) (range_with_len 0 (length H))
+
 -- what a command on a line prints
 abbrev pub printed : World → ℕ → Command → List ℕ
 printed w line (command.Edit name e) = let p = place_of w name in refusal_of line (decided w p e)
+printed w line (command.Read name range) = range_values_text line name range w.published (published_values w)
+printed w line command.Values = all_text w.published (published_values w)
+printed w line command.History = history_text (site_names w) w.history
+printed w line command.Wire = wire_text (effects w.size w.history)
 printed w line (command.Show name) = show_text w (place_of w name)
 printed w line command.ShowServer = server_text w
 printed w line _ = []

@@ -1,31 +1,38 @@
 -- The state of a run: one history, and what each site has. One command is one step of it.
-use Rattle.std.specs.Prelude.{ℕ, zero, suc, ◌+◌, ◌-◌, min, max, nat_lt, if◌then◌else◌, List, [], ◌∷◌, ◌++◌, length, take, drop, Option, Some, None, Result, Ok, Err, slice_index_or, slice_set, position, unwrap_or}
+use Rattle.std.specs.Prelude.{ℕ, zero, suc, ◌+◌, ◌-◌, min, max, nat_lt, if◌then◌else◌, List, [], ◌∷◌, ◌++◌, length, take, drop, map, Option, Some, None, Result, Ok, Err, slice_index_or, slice_set, position, unwrap_or}
+use Rattle.std.specs.List.{range_with_len}
 use Rattle.std.specs.Str.{bytes_eq}
 use Rattle.ss_base.specs.declared.types.Size.{Size}
+use Rattle.sheet_value.specs.declared.value.Value.{Value}
+use Rattle.sheet_value.specs.Tables.{value_at}
 use Rattle.sheet_ops.specs.declared.edit.Edit.{Edit}
+use Rattle.sheet_ops.specs.declared.edit.Edit.TheVariants as edit
 use Rattle.sheet_ops.specs.declared.edit.EditErr.{EditErr}
 use Rattle.sheet_ops.specs.declared.edit.EditErr.TheVariants as fault
 use Rattle.sheet_ops.specs.declared.operation.Entry.{Entry}
 use Rattle.sheet_ops.specs.declared.operation.Intent.{Intent}
 use Rattle.sheet_ops.specs.Identity.{IdSheet}
 use Rattle.sheet_ops.specs.History.{own_entries, operations, view}
+use Rattle.author_ops.specs.Copies.{line_count}
 use Rattle.author_ops.specs.Edits.{intended}
+use Rattle.full_calc.specs.Values.{value_table}
 use Rattle.script_read.specs.declared.command.Command.{Command}
 use Rattle.script_read.specs.declared.command.Command.TheVariants as command
 use Rattle.script_run.specs.declared.seat.Seat.{Seat}
 
--- The size of the sheet, the history, and what each site has. The seats stand in the order in which the sites were declared; site
--- number i has the place i - 1.
+-- The size of the sheet, the history, how many of its entries are published, and what each site has. The seats stand in the order
+-- in which the sites were declared; site number i has the place i - 1.
 pub record World : Type 0 where
   pub size : Size
   pub history : List Entry
+  pub published : ℕ
   pub seats : List Seat
 
 abbrev pub no_world : World
-no_world = record { size = record { rows = 0; cols = 0 }; history = []; seats = [] }
+no_world = record { size = record { rows = 0; cols = 0 }; history = []; published = 0; seats = [] }
 
 abbrev pub new_seat : List ℕ → Seat
-new_seat name = record { name = name; made = []; pushed = 0; taken = 0 }
+new_seat name = record { name = name; made = []; pushed = 0; taken = 0; read = 0 }
 
 -- the place of the site with this name, if there is one
 abbrev pub place_in : List Seat → List ℕ → Option ℕ
@@ -53,9 +60,15 @@ abbrev pub unless_spent : ℕ → Result Intent EditErr → Result Intent EditEr
 unless_spent issued (Err e) = Err e
 unless_spent issued (Ok op) = if nat_lt issued 1000 then Ok op else Err fault.Spent
 
--- what an edit of a site comes to; no line sorts yet, so that there are no keys
+-- The keys of a sort, one a row: the values of the sheet in the column by which it sorts. No other edit has keys. No proof looks
+-- into them but where it says so.
+unfoldable pub keys_of : IdSheet → Edit → List Value
+keys_of X (edit.Sort first last col down) = map (λ (row : ℕ). value_at (value_table X) row col) (range_with_len first (line_count first last))
+keys_of X _ = []
+
+-- what an edit of a site comes to on what the site sees
 abbrev pub decided : World → ℕ → Edit → Result Intent EditErr
-decided w p e = unless_spent (operations (seat_at w p).made) (intended (view_at w p) e [])
+decided w p e = let X = view_at w p in unless_spent (operations (seat_at w p).made) (intended X e (keys_of X e))
 
 abbrev pub after_decided : World → ℕ → Result Intent EditErr → World
 after_decided w p (Err e) = w
@@ -83,6 +96,18 @@ pushed w p n =
 abbrev pub pulled : World → ℕ → Option ℕ → World
 pulled w p n = let s = seat_at w p in put_seat w p (record s { taken = s.taken + at_most n (length w.history - s.taken) })
 
+-- the next entries of the history are published
+abbrev pub recalculated : World → Option ℕ → World
+recalculated w n = record w { published = w.published + at_most n (length w.history - w.published) }
+
+-- a site pushes all, and then all of the history is published
+abbrev pub synced : World → ℕ → World
+synced w p = recalculated (pushed w p None) None
+
+-- a site reads what is published
+abbrev pub reading : World → ℕ → World
+reading w p = put_seat w p (record (seat_at w p) { read = w.published })
+
 -- the sites one after another, so many from a place on
 abbrev pub at_each : (World → ℕ → World) → ℕ → ℕ → World → World
 at_each does p zero w = w
@@ -104,6 +129,12 @@ after w (command.Push name n) = pushed w (place_of w name) n
 after w (command.Pull name n) = pulled w (place_of w name) n
 after w command.PushAll = each_pushed w
 after w command.PullAll = each_pulled w
+after w (command.Sync name) = synced w (place_of w name)
+after w (command.Recalc n) = recalculated w n
+after w (command.Read name range) = reading w (place_of w name)
+after w command.Values = w
+after w command.History = w
+after w command.Wire = w
 after w (command.Show name) = w
 after w command.ShowServer = w
 after w command.End = w

@@ -6,9 +6,10 @@ ghost use Rattle.sheet_ops.specs.Represents.{ClientRepresents};
 ghost use Rattle.sheet_ops.specs.Fits.{IntentFits};
 ghost use Rattle.sheet_ops.specs.Placed.{placed_size};
 ghost use Rattle.jup_client.specs.Clients.{entry_of};
-ghost use Rattle.script_read.specs.Commands.{EntryWithin};
+ghost use Rattle.script_read.specs.Commands.{EditWithin};
 ghost use Rattle.script_run.specs.Issues.{Decides, Issues};
 
+use crate::keys::keys;
 use crate::seat::Seat;
 use author_ops::denoted;
 use jup_client::Client;
@@ -38,7 +39,7 @@ pub fn issue(
     client: &mut Client,
     edit: &Edit,
 ) -> Result<(), EditErr>
-    requires entry { EntryWithin 4096 edit.now }
+    requires entry { EditWithin 4096 edit.now }
     requires few { client.old.issued ≤ 1000 }
     ensures ok { OnOk result (Issues site edit.now seat.old seat.new client.old client.new) }
     ensures represents { (sites : ℕ) (H : List Entry) → site.0 ≡ client.old.site → seat.old.taken ≡ client.old.taken →
@@ -47,7 +48,8 @@ pub fn issue(
     ensures err { OnErr result ((seat.new ≡ seat.old) × (client.new ≡ client.old)) }
     ensures cause { IfErr result (λ e. e ≢ EditErr.Memory → Decides client.old edit.now (Err e)) }
 {
-    let intent = denoted(alloc, client.sheet(), edit, &[])?;
+    let keys = keys(alloc, client.sheet(), edit)?;
+    let intent = denoted(alloc, client.sheet(), edit, &keys)?;
     let kept = intent.copy()?;
     seat.made.push(Entry {
         site,

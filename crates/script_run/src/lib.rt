@@ -1,8 +1,12 @@
-//! The run of a script: its history, one client for each site, and one server. One command is one step.
+//! The run of a script: its history, one client for each site, one server, and the sheet of what is published
+//! with its values. One command is one step.
 #![tactic(auto)]
 
 mod deliver;
 mod issue;
+mod keys;
+pub mod laws;
+mod published;
 mod room;
 mod run;
 mod seat;

@@ -1,15 +1,17 @@
-ghost use Rattle.std.specs.Prelude.{◌≡◌, ◌≢◌, ◌≤◌, ◌<◌, ◌-◌, ◌+◌, [], ◌∷◌, ◌++◌, length, Some, None, Ok, Err, IfOk, OnOk, OnErr, IfErr, ℕ, is_some, true, false};
+ghost use Rattle.std.specs.Prelude.{◌≡◌, ◌≢◌, ◌≤◌, ◌<◌, ◌-◌, ◌+◌, [], ◌∷◌, ◌++◌, length, map, Some, None, Ok, Err, IfOk, OnOk, OnErr, IfErr, ℕ, is_some, true, false};
 ghost use Rattle.std.specs.Str.{bytes_eq};
 ghost use Rattle.sheet_ops.specs.declared.operation.Intent.{Intent};
 ghost use Rattle.script_read.specs.declared.command.Command.TheVariants as command;
-ghost use Rattle.script_read.specs.Commands.{EntryWithin};
-ghost use Rattle.script_run.specs.World.{no_world, new_seat, place_of, place_in, seat_at, decided, after_decided, at_most, pushed, pulled, each_pushed, each_pulled, after};
-ghost use Rattle.script_run.specs.Transcript.{show_text, server_text, printed};
+ghost use Rattle.script_read.specs.Commands.{EditWithin};
+ghost use Rattle.script_run.specs.World.{no_world, new_seat, place_of, place_in, seat_at, decided, after_decided, at_most, pushed, pulled, recalculated, synced, reading, each_pushed, each_pulled, after};
+ghost use Rattle.sheet_text.specs.Operations.{history_text, wire_text};
+ghost use Rattle.script_run.specs.Transcript.{all_text, effects, site_names, published_values, range_values_text, show_text, server_text, printed};
 ghost use Rattle.script_run.specs.Rooms.{RoomRepresents};
 ghost use Rattle.script_run.specs.States.{MayStep, closes};
 
 use crate::deliver::{deliver, hand_in};
 use crate::issue::issue;
+use crate::published::Published;
 use crate::room::Room;
 use crate::seat::Seat;
 use crate::text::{nothing, text_of};
@@ -17,13 +19,13 @@ use jup_client::Client;
 use jup_server::Server;
 use script_read::Command;
 use sheet_ops::{Edit, EditErr, Effect, Entry};
-use sheet_text::{head, server_head, sheet_lines};
-use ss_base::{Memory, Seq, Site, Size, Txt};
+use sheet_text::{head, history_lines, server_head, sheet_lines, wire_lines};
+use ss_base::{Memory, Seq, Site, Size, Span, Txt};
 use std::alloc::Global;
 use std::marker::Model;
 
-/// The history of a run, what its sites have, and the room that represents them: a client for each site
-/// and one server. Sites go by their places, counted from 0 in the order in which they were added.
+/// The history of a run, what its sites have, the room that represents them, which is a client for each
+/// site and one server, and what is published. Sites go by their places, counted from 0 in the order in which they were added.
 #[derive(Debug, Drop)]
 pub struct Run {
     size: Size,
@@ -33,22 +35,23 @@ pub struct Run {
     seats: Vec<Seat>,
     server: Server,
     clients: Vec<Client>,
+    published: Published,
 }
 
 impl Model for Run {
     ghost use Rattle.std.specs.Coded.{codes};
     ghost use Rattle.sheet_ops.specs.contracts.operation.Entry as entry;
     ghost use Rattle.script_run.specs.World.{World};
-    ghost use Rattle.script_run.specs.Runs.{IsRun};
+    ghost use Rattle.script_run.specs.Runs.{RunStands};
 
     ghost Value = { World };
 
     ghost coded = { Prim.hlevel (codes, entry.the_row.coded) };
 
-    ghost view = { λ r. record { size = r.size; history = r.history.items; seats = r.seats.items } };
+    ghost view = { λ r. record { size = r.size; history = r.history.items; published = r.published.length; seats = r.seats.items } };
 
-    ghost invariant = { λ r. IsRun (record { size = r.size; history = r.history.items; seats = r.seats.items })
-        r.effects.items (record { server = r.server; clients = r.clients.items }) };
+    ghost invariant = { λ r. RunStands (record { size = r.size; history = r.history.items; published = r.published.length; seats = r.seats.items })
+        r.effects.items (record { server = r.server; clients = r.clients.items }) r.published };
 }
 
 impl Run {
@@ -59,6 +62,7 @@ impl Run {
         ensures { IfOk result (λ r. r ≡ record no_world { size = size }) }
     {
         let server = Server::new(alloc, size, 1)?;
+        let published = Published::new(alloc, size)?;
         Ok(Run {
             size,
             history: Vec::new(alloc),
@@ -66,6 +70,7 @@ impl Run {
             seats: Vec::new(alloc),
             server,
             clients: Vec::new(alloc),
+            published,
         })
     }
 
@@ -113,6 +118,7 @@ impl Run {
             made: Seq::new(alloc),
             pushed: 0,
             taken: 0,
+            read: 0,
         });
         self.server = server;
         Ok(())
@@ -121,7 +127,7 @@ impl Run {
     /// Does an edit of a site at once. A refused edit leaves the run.
     pub fn edit(&mut self, alloc: Global, place: usize, edit: &Edit) -> Result<(), EditErr>
         requires place { place < length self.old.seats }
-        requires short { EntryWithin 4096 edit.now }
+        requires short { EditWithin 4096 edit.now }
         ensures ok { OnOk result ((op : Intent) × (decided self.old place edit.now ≡ Ok op) × (self.new ≡ after_decided self.old place (Ok op))) }
         ensures err { OnErr result (self.new ≡ self.old) }
         ensures cause { IfErr result (λ e. e ≢ EditErr.Memory → decided self.old place edit.now ≡ Err e) }
@@ -235,6 +241,73 @@ impl Run {
         Ok(())
     }
 
+    /// Publishes the next entry of the history. A refused call leaves the run.
+    fn publish_one(&mut self) -> Result<(), Memory>
+        requires { self.old.published < length self.old.history }
+        ensures ok { OnOk result (self.new ≡ recalculated self.old (Some 1)) }
+        ensures err { OnErr result (self.new ≡ self.old) }
+    {
+        let effect = &self.effects[self.published.length as usize];
+        self.published.advance(effect)
+    }
+
+    /// How many entries of the history aren't published.
+    fn unpublished(&self) -> usize
+        ensures { result ≡ length self.now.history - self.now.published }
+    {
+        self.history.len() - self.published.length as usize
+    }
+
+    /// Publishes the rest of the history, all of it or at most so many entries. After a refused call those
+    /// are published that were done.
+    pub fn recalc(&mut self, most: Option<u32>) -> Result<(), Memory>
+        ensures ok { OnOk result (self.new ≡ recalculated self.old most) }
+        ensures err { OnErr result ((k : ℕ) × (self.new ≡ recalculated self.old (Some k))) }
+    {
+        let count = limited(most, self.unpublished());
+        for _i in 0..count {
+            self.publish_one()?;
+        }
+        Ok(())
+    }
+
+    /// Pushes all own entries of a site, and then publishes the rest of the history.
+    pub fn sync(&mut self, place: usize) -> Result<(), Memory>
+        requires { place < length self.old.seats }
+        ensures { OnOk result (self.new ≡ synced self.old place) }
+    {
+        self.push(place, None)?;
+        self.recalc(None)
+    }
+
+    /// The text of all published values. They are evaluated in full where they weren't since the last
+    /// entry was published.
+    pub fn values(&mut self, alloc: Global) -> Result<Txt, Memory>
+        ensures text { IfOk result (λ t. t ≡ all_text self.old.published (published_values self.old)) }
+        ensures same { self.new ≡ self.old }
+    {
+        self.published.all_text(alloc)
+    }
+
+    /// What a site reads of the published values in a range, by its name and the number of the line.
+    pub fn read(
+        &mut self,
+        alloc: Global,
+        number: u32,
+        name: &Txt,
+        range: &Span,
+    ) -> Result<Txt, Memory>
+        requires { MayStep self.old (command.Read name.now range.now) }
+        ensures ok { IfOk result (λ t. (t ≡ printed self.old number (command.Read name.now range.now)) × (self.new ≡ after self.old (command.Read name.now range.now))) }
+        ensures err { OnErr result (self.new ≡ self.old) }
+    {
+        let place = self.place(name);
+        let text = self.published.range_text(alloc, number, name, range)?;
+        let seat = &mut self.seats[place];
+        seat.read = self.published.length;
+        Ok(text)
+    }
+
     /// The text of the sheet that a site sees.
     pub fn show(&self, alloc: Global, place: usize) -> Result<Txt, Memory>
         requires { place < length self.now.seats }
@@ -260,6 +333,22 @@ impl Run {
         sheet_lines(alloc, &head, self.server.sheet())
     }
 
+    /// The text of the history, each operation as its author issued it. It takes time with the text.
+    pub fn history(&self, alloc: Global) -> Result<Txt, Memory>
+        ensures { IfOk result (λ t. t ≡ history_text (site_names self.now) self.now.history) }
+    {
+        let names = names_of(alloc, self.seats.as_slice())?;
+        history_lines(alloc, names.as_slice(), self.history.as_slice())
+    }
+
+    /// The text of what the entries of the history did, each as the server applied it. It takes time
+    /// with the text.
+    pub fn wire(&self, alloc: Global) -> Result<Txt, Memory>
+        ensures { IfOk result (λ t. t ≡ wire_text (effects self.now.size self.now.history)) }
+    {
+        wire_lines(alloc, self.effects.as_slice())
+    }
+
     /// Does an edit of a site, and gives what is printed of it by the number of its line.
     fn edited(&mut self, alloc: Global, number: u32, name: &Txt, edit: &Edit) -> Result<Txt, Memory>
         requires { MayStep self.old (command.Edit name.now edit.now) }
@@ -283,7 +372,7 @@ impl Run {
     }
 
     /// Does a command, and gives what it prints by the number of its line. A refused call leaves the run
-    /// where it wanted memory for a site; else the pushes and pulls that were made stand.
+    /// where it wanted memory for a site; else the pushes, the pulls and the publishing that were done stand.
     pub fn step(&mut self, alloc: Global, number: u32, command: &Command) -> Result<Txt, Memory>
         requires { MayStep self.old command.now }
         ensures ok { IfOk result (λ t. (t ≡ printed self.old number command.now) × (self.new ≡ after self.old command.now)) }
@@ -313,6 +402,18 @@ impl Run {
                 self.pull_all()?;
                 Ok(nothing(alloc))
             }
+            Command::Sync(name) => {
+                self.sync(self.place(name))?;
+                Ok(nothing(alloc))
+            }
+            Command::Recalc(count) => {
+                self.recalc(*count)?;
+                Ok(nothing(alloc))
+            }
+            Command::Read(name, range) => self.read(alloc, number, name, range),
+            Command::Values => self.values(alloc),
+            Command::History => self.history(alloc),
+            Command::Wire => self.wire(alloc),
             Command::Show(name) => self.show(alloc, self.place(name)),
             Command::ShowServer => self.show_server(alloc),
         }
@@ -334,6 +435,17 @@ fn first_of(seats: &[Seat], name: &Txt) -> Option<usize>
     ensures { result ≡ place_in seats.now name.now }
 {
     seats.iter().position(|seat| is_of(seat, name))
+}
+
+/// The names of seats, in their order.
+fn names_of(alloc: Global, seats: &[Seat]) -> Result<Vec<Txt>, Memory>
+    ensures { IfOk result (λ v. v.items ≡ map (λ s. s.name) seats.now) }
+{
+    let mut names = Vec::new(alloc);
+    for seat in seats {
+        names.push(seat.name.copy()?)?;
+    }
+    Ok(names)
 }
 
 fn is_of(seat: &Seat, name: &Txt) -> bool

@@ -11,4 +11,6 @@ pub struct Seat {
     pub pushed: u32,
     /// How many entries of the history it has taken.
     pub taken: u32,
+    /// How many entries were published when it last read values; 0 before that.
+    pub read: u32,
 }

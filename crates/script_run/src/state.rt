@@ -155,9 +155,18 @@ fn fault_in(run: &Run, closed: bool, command: &Command) -> Option<ScriptKind>
         Command::Edit(name, _)
         | Command::Push(name, _)
         | Command::Pull(name, _)
+        | Command::Sync(name)
+        | Command::Read(name, _)
         | Command::Show(name) => site_missing(run, name),
-        Command::Note | Command::PushAll | Command::PullAll | Command::ShowServer | Command::End =>
-            None,
+        Command::Note
+        | Command::PushAll
+        | Command::PullAll
+        | Command::Recalc(_)
+        | Command::Values
+        | Command::History
+        | Command::Wire
+        | Command::ShowServer
+        | Command::End => None,
     }
 }
 

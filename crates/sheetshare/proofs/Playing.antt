@@ -1,5 +1,5 @@
 -- A run in the middle: what was written, and what the rest will come to.
-use Rattle.std.proofs.Common.{◌≡◌, ℕ, ◌+◌, true, false, cond, List, [], ◌∷◌, ◌++◌, take, drop, refl, ap, sym, ◌∙◌, subst, append_assoc, Option, Some, None, Ok, Err}
+use Rattle.std.proofs.Common.{◌≡◌, ℕ, ◌+◌, true, false, cond, List, [], ◌∷◌, ◌++◌, take, drop, refl, ap, sym, ◌∙◌, subst, append_assoc, Option, Some, None, Result, Ok, Err}
 use Rattle.std.proofs.lemmas.List.{append-nil, take-append-drop}
 use Rattle.ss_base.specs.Streams.{AddsBack, TakesPrefix}
 use Rattle.ss_base.specs.Lines.{Line, FeedState, is_long, lines, lines_left, GivesLine}
@@ -9,14 +9,21 @@ use Rattle.script_read.specs.Commands.{command_of}
 use Rattle.script_read.specs.declared.script.ScriptErr.{ScriptErr}
 use Rattle.script_read.specs.declared.script.ScriptKind.TheVariants as kind
 use Rattle.script_read.specs.Script.{Stop, ended, too_long, refused, refused_at, LineTurn, goes, stops, turn_of_line, Script, script_from, after_turn, script_of}
-use Rattle.script_run.specs.declared.room.Room.{Room}
 use Rattle.script_run.specs.declared.state.Outcome.TheVariants as outcome
 use Rattle.script_run.specs.World.{World, after_all, world_after}
 use Rattle.script_run.specs.Transcript.{transcript_from, transcript}
-use Rattle.script_run.specs.Rooms.{RoomRepresents}
 use Rattle.script_run.specs.States.{Table, first_table, TurnGives}
+use Rattle.script_run.proofs.Turns.{ended_open}
+use Rattle.sheetshare.specs.declared.play.Flow.{Flow}
+use Rattle.sheetshare.specs.declared.play.Flow.TheVariants as flow
+use Rattle.sheetshare.specs.declared.play.Status.{Status}
 use Rattle.sheetshare.specs.declared.play.Status.TheVariants as status
+use Rattle.sheetshare.specs.LineGives.{LineGives}
 use Rattle.sheetshare.specs.Played.{Wrote, WrotePrefix, Played}
+
+-- what an equal line comes to, and an equal answer to it
+pub of_line : (t t' : Table) (n : ℕ) (line held : List ℕ) (a b : Option (List ℕ)) (x y : Result Flow Status) → line ≡ held → x ≡ y → LineGives t t' n line a b x → LineGives t t' n held a b y
+of_line t t' n line held a b x y e f k = subst (λ (z : Result Flow Status). LineGives t t' n held a b z) f (subst (λ (l : List ℕ). LineGives t t' n l a b x) e k)
 
 -- ---- the next of the lines that are left
 module _ (t : Table) (n : ℕ) (left : Option (List Line)) (whole : List Line) (left_is : left ≡ Some whole) where
@@ -70,10 +77,14 @@ module _ (s : Script) (left : Option (List Line)) (t : Table) (n : ℕ) (r : Rea
       }
 
   -- where the script ends the state is the last one
-  pub room_here : TurnGives t t' n held outcome.Ended → (room : Room) → RoomRepresents t'.world room → RoomRepresents (world_after s.commands) room
-  room_here k room stands =
+  pub world_here : TurnGives t t' n held outcome.Ended → t'.world ≡ world_after s.commands
+  world_here k =
       let here = turn_here t n left r.rest r.left_is new held h (stops ended) k.0 in
-      subst (λ (w : World). RoomRepresents w room) (ap (λ (u : Table). u.world) k.1 ∙ (sym (ap (λ (q : Script). after_all t.world q.commands) here.2) ∙ r.world)) stands
+      ap (λ (u : Table). u.world) k.1 ∙ (sym (ap (λ (q : Script). after_all t.world q.commands) here.2) ∙ r.world)
+
+-- a script that ends has a sheet
+pub opened_here : (t t' : Table) (n : ℕ) (held : List ℕ) → TurnGives t t' n held outcome.Ended → t'.declared.sheet ≡ true
+opened_here t t' n held k = ap (λ (u : Table). u.declared.sheet) k.1 ∙ ended_open t.declared _ _ k.0
 
 -- ---- and what was written
 pub record Runs (s : Script) (before : List ℕ) (left : Option (List Line)) (taken : Option (List ℕ)) (t : Table) (n : ℕ) : Type 0 where
@@ -156,3 +167,17 @@ module _ (s : Script) (before : List ℕ) (left : Option (List Line)) (taken : O
               ∙ (ap (λ p. r.part ++ (p ++ more)) (take-append-drop m text) ∙ (sym (append_assoc r.part text more) ∙ text_here))),
           added (take m text) taken' (rw r.taken_is at a),
         )
+
+  -- an end at a line that is refused, at a fault of the sink or at want of memory
+  pub at_stop : (t' : Table) (new : Option (List Line)) (held : List ℕ) (taken' : Option (List ℕ)) (e : Status) → GivesLine left new held (Ok read.Line) → LineGives t t' n held taken taken' (Err e) → Played s before taken' e
+  at_stop t' new held taken' (status.Script err) h k = subst (λ (x : Option (List ℕ)). Played s before x (status.Script err)) (sym k.unwritten) (at_refused t' new held err h k.turn)
+  at_stop t' new held taken' status.WriteFault h k = cut_here t' new held k.text h k.turn taken' k.written
+  at_stop t' new held taken' status.Memory h k = subst (λ (x : Option (List ℕ)). WrotePrefix s before x) (sym k) cut
+  at_stop t' new held taken' status.Done h k = absurd k
+  at_stop t' new held taken' status.ReadFault h k = absurd k
+  at_stop t' new held taken' status.Usage h k = absurd k
+  at_stop t' new held taken' (status.TooLong line) h k = absurd k
+
+  -- an end at the line `end`
+  pub at_ended : (t' : Table) (new : Option (List Line)) (held : List ℕ) (taken' : Option (List ℕ)) → GivesLine left new held (Ok read.Line) → LineGives t t' n held taken taken' (Ok flow.Ended) → Played s before taken' status.Done
+  at_ended t' new held taken' h k = subst (λ (x : Option (List ℕ)). Played s before x status.Done) (sym k.unwritten) (at_done t' new held h k.turn)

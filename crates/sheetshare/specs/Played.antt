@@ -1,7 +1,6 @@
 -- What a run leaves, by how it ended.
 use Rattle.std.specs.Prelude.{ℕ, ◌≡◌, List, ◌++◌, Option, Some, Result, Ok, Err}
 use Rattle.script_read.specs.Script.{Script, ended, too_long, refused}
-use Rattle.script_run.specs.declared.room.Room.{Room}
 use Rattle.script_run.specs.Transcript.{transcript}
 use Rattle.sheetshare.specs.declared.play.Status.{Status}
 use Rattle.sheetshare.specs.declared.play.Status.TheVariants as status
@@ -24,7 +23,7 @@ Played s before new status.WriteFault = WrotePrefix s before new
 Played s before new status.Memory = WrotePrefix s before new
 Played s before new status.Usage = ⊥
 
--- an end with a room is the one behind the line `end`
-abbrev pub status_of : Result Room Status → Status
-status_of (Ok room) = status.Done
+-- an end without a fault is the one behind the line `end`
+abbrev pub status_of : {A : Type 0} → Result A Status → Status
+status_of (Ok end) = status.Done
 status_of (Err s) = s

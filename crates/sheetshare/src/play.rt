@@ -1,11 +1,15 @@
-ghost use Rattle.std.specs.Prelude.{◌≡◌, ◌≢◌, ◌↔◌, ℕ, ◌<◌, ◌≤◌, [], List, Some, Err, IfOk, IfErr, IfSome, IsSome};
+ghost use Rattle.std.specs.Prelude.{◌≡◌, ◌≢◌, ◌↔◌, ℕ, ◌<◌, ◌≤◌, [], List, true, length, Some, Err, IfOk, IfErr, OnOk, IsErrOf, IfSome, IsSome};
 ghost use Rattle.ss_base.specs.Streams.{Rose};
 ghost use Rattle.script_read.specs.Script.{script};
+ghost use Rattle.script_run.specs.Publishing.{NeverGoesBack};
 ghost use Rattle.script_run.specs.World.{world_after};
 ghost use Rattle.script_run.specs.Rooms.{RoomRepresents};
+ghost use Rattle.script_run.specs.States.{first_table};
+ghost use Rattle.sheetshare.specs.LineGives.{LineGives};
 ghost use Rattle.sheetshare.specs.Played.{Played, status_of};
 
 use script_read::{ScriptErr, ScriptKind};
+use script_run::laws::publishing_never_goes_back;
 use script_run::{Outcome, Room, ScriptState};
 use ss_base::{Failed, LineErr, LineFeed, Memory, Sink, Source, Turn, Txt, write_all};
 use std::alloc::Global;
@@ -24,6 +28,15 @@ pub enum Status {
     Usage,
     /// The line with this number is too long.
     TooLong(u32),
+}
+
+/// What a line leads to that no fault stops.
+#[derive(Clone, Copy, Debug)]
+enum Flow {
+    /// The next line.
+    GoesOn,
+    /// It was the line `end`.
+    Ended,
 }
 
 /// What a run leaves.
@@ -45,6 +58,8 @@ pub fn play<S: Source, K: Sink>(
 ) -> PlayEnd
     ensures script { (bytes before : List ℕ) → words.now ≡ [] → S.left source.old ≡ Some bytes → K.taken sink.old ≡ Some before →
         Played (script bytes) before (K.taken sink.new) result.status }
+    // What is published never goes back.
+    ensures published { (bytes : List ℕ) → NeverGoesBack (script bytes).commands }
     ensures room { (bytes : List ℕ) → S.left source.old ≡ Some bytes → IfSome result.room (RoomRepresents (world_after (script bytes).commands)) }
     ensures done { IsSome result.room ↔ (result.status ≡ Status.Done) }
     ensures usage { (result.status ≡ Status.Usage) ↔ (words.now ≢ []) }
@@ -53,6 +68,7 @@ pub fn play<S: Source, K: Sink>(
     ensures read { result.status ≡ Status.ReadFault → Rose (S.faults source.old) (S.faults source.new) }
     ensures write { result.status ≡ Status.WriteFault → Rose (K.faults sink.old) (K.faults sink.new) }
 {
+    publishing_never_goes_back();
     if !words.is_empty() {
         return PlayEnd {
             status: Status::Usage,
@@ -78,14 +94,36 @@ fn play_lines<S: Source, K: Sink>(
         Played (script bytes) before (K.taken sink.new) (status_of result) }
     ensures room { (bytes : List ℕ) → S.left source.old ≡ Some bytes → IfOk result (RoomRepresents (world_after (script bytes).commands)) }
     ensures other { IfErr result (λ s. (s ≢ Status.Done) × (s ≢ Status.Usage)) }
-    ensures read { result ≡ Err Status.ReadFault → Rose (S.faults source.old) (S.faults source.new) }
-    ensures write { result ≡ Err Status.WriteFault → Rose (K.faults sink.old) (K.faults sink.new) }
+    ensures read { IsErrOf result Status.ReadFault → Rose (S.faults source.old) (S.faults source.new) }
+    ensures write { IsErrOf result Status.WriteFault → Rose (K.faults sink.old) (K.faults sink.new) }
+{
+    let mut state = ScriptState::new();
+    match play_each(alloc, &mut state, source, sink) {
+        Ok(()) => Ok(state.into_room()),
+        Err(status) => Err(status),
+    }
+}
+
+/// Does line after line up to the line `end`, from the state before the first one.
+fn play_each<S: Source, K: Sink>(
+    alloc: Global,
+    state: &mut ScriptState,
+    source: &mut S,
+    sink: &mut K,
+) -> Result<(), Status>
+    requires { state.old ≡ first_table }
+    ensures text { (bytes before : List ℕ) → S.left source.old ≡ Some bytes → K.taken sink.old ≡ Some before →
+        Played (script bytes) before (K.taken sink.new) (status_of result) }
+    ensures world { (bytes : List ℕ) → S.left source.old ≡ Some bytes → OnOk result (state.new.world ≡ world_after (script bytes).commands) }
+    ensures opened { OnOk result (state.new.declared.sheet ≡ true) }
+    ensures other { IfErr result (λ s. (s ≢ Status.Done) × (s ≢ Status.Usage)) }
+    ensures read { IsErrOf result Status.ReadFault → Rose (S.faults source.old) (S.faults source.new) }
+    ensures write { IsErrOf result Status.WriteFault → Rose (K.faults sink.old) (K.faults sink.new) }
 {
     let mut feed = match LineFeed::new(alloc) {
         Ok(feed) => feed,
         Err(Memory) => return Err(Status::Memory),
     };
-    let mut state = ScriptState::new();
     let mut number = 1u32;
     loop {
         match feed.read_line(source) {
@@ -99,18 +137,36 @@ fn play_lines<S: Source, K: Sink>(
             Err(LineErr::ReadFault) => return Err(Status::ReadFault),
             Err(LineErr::TooLong) => return Err(Status::TooLong(number)),
         }
-        let outcome = match state.turn(alloc, number, feed.line()) {
-            Ok(outcome) => outcome,
-            Err(Memory) => return Err(Status::Memory),
-        };
-        match outcome {
-            Outcome::Goes(text) => match write_all(sink, text.bytes()) {
-                Ok(()) => {}
-                Err(Failed) => return Err(Status::WriteFault),
-            },
-            Outcome::Ended => return Ok(state.into_room()),
-            Outcome::Refused(err) => return Err(Status::Script(err)),
+        match play_line(alloc, state, number, feed.line(), sink) {
+            Ok(Flow::GoesOn) => {}
+            Ok(Flow::Ended) => return Ok(()),
+            Err(status) => return Err(status),
         }
         number += 1;
+    }
+}
+
+/// Does the line with this number, and writes what it prints.
+fn play_line<K: Sink>(
+    alloc: Global,
+    state: &mut ScriptState,
+    number: u32,
+    line: &[u8],
+    sink: &mut K,
+) -> Result<Flow, Status>
+    requires { length line.now ≤ 4096 }
+    ensures gives { LineGives state.old state.new number line.now (K.taken sink.old) (K.taken sink.new) result }
+    ensures other { IfErr result (λ s. (s ≢ Status.Done) × (s ≢ Status.Usage) × (s ≢ Status.ReadFault)) }
+    ensures count { K.faults sink.old ≤ K.faults sink.new }
+    ensures write { IsErrOf result Status.WriteFault → Rose (K.faults sink.old) (K.faults sink.new) }
+{
+    match state.turn(alloc, number, line) {
+        Ok(Outcome::Goes(text)) => match write_all(sink, text.bytes()) {
+            Ok(()) => Ok(Flow::GoesOn),
+            Err(Failed) => Err(Status::WriteFault),
+        },
+        Ok(Outcome::Ended) => Ok(Flow::Ended),
+        Ok(Outcome::Refused(err)) => Err(Status::Script(err)),
+        Err(Memory) => Err(Status::Memory),
     }
 }

@@ -1,6 +1,5 @@
-use Rattle.std.proofs.Common.{◌≡◌, List, ℕ, sym, ◌∙◌, subst}
+use Rattle.std.proofs.Common.{ℕ, sym, ◌∙◌, subst}
 use Rattle.ss_base.specs.Lists.{IsPrefixOf}
-use Rattle.sheet_ops.specs.declared.operation.Entry.{Entry}
 use Rattle.sheet_ops.specs.History.{own_entries}
 use Rattle.jup_client.specs.Clients.{down_at}
 use Rattle.script_run.proofs.Deliveries.{taken_small, taken_counts}

@@ -1,4 +1,4 @@
-use Rattle.std.proofs.Common.{◌≡◌, ◌<◌, ◌+◌, ◌++◌, ◌∷◌, [], List, length, ap, sym, ◌∙◌, subst, arith}
+use Rattle.std.proofs.Common.{◌≡◌, ◌<◌, ◌++◌, ◌∷◌, [], List, length, ap, sym, ◌∙◌, subst, arith}
 use Rattle.sheet_ops.specs.Represents.{ClientState, ServerState}
 use Rattle.script_run.specs.declared.seat.Seat.{Seat}
 use Rattle.script_run.specs.Runs.{IsRun}
@@ -14,11 +14,14 @@ invariant_of-self-2 c =
     let few : length seats < 8 = subst (λ (w : World). length w.seats < 8) (sym c.self.view_is) c.requires.few in
     let server = c.in_ok-server.ensures.state in
     let new = c.in_ok-client.ensures.state in
-    let run = added_run _ _ _ c.self.invariant none few c.args.name.now
+    let run = added_run _ _ _ c.self.invariant.run none few c.args.name.now
     c.in_ok-server.server (ap (λ (v : ServerState). v.size) server) (omega (arith, ap (λ (v : ServerState). v.sites) server, c.len.ensures)) c.in_ok-server.ensures.represents
     c.in_ok-client.client (omega (arith, ap (λ (k : ClientState). k.site) new, c.len.ensures)) (ap (λ (k : ClientState). k.size) new) (ap (λ (k : ClientState). k.taken) new) c.in_ok-client.ensures.represents in
     let seats_are : c.push_reserved.new.self.items ≡ seats ++ new_seat c.args.name.now ∷ [] =
-    c.push_reserved.ensures.items ∙ (λ i. c.in_ok-reserve.ensures.items i ++ record { name = c.in_ok-name.ensures i; made = c.new-3.ensures i; pushed = 0; taken = 0 } ∷ []) in
+    c.push_reserved.ensures.items ∙ (λ i. c.in_ok-reserve.ensures.items i ++ record { name = c.in_ok-name.ensures i; made = c.new-3.ensures i; pushed = 0; taken = 0; read = 0 } ∷ []) in
     let clients_are : c.push.new.self.items ≡ clients ++ c.in_ok-client.client ∷ [] = c.in_ok-push.ensures.items in
-    subst (λ (ss : List Seat). IsRun (record { size = c.self.inside.size; history = c.self.inside.history.items; seats = ss }) c.self.inside.effects.items (record { server = c.in_ok-server.server; clients = c.push.new.self.items })) (sym seats_are)
-    (subst (λ (ks : List ClientState). IsRun (record { size = c.self.inside.size; history = c.self.inside.history.items; seats = seats ++ new_seat c.args.name.now ∷ [] }) c.self.inside.effects.items (record { server = c.in_ok-server.server; clients = ks })) (sym clients_are) run)
+    record {
+      run = subst (λ (ss : List Seat). IsRun (record { size = c.self.inside.size; history = c.self.inside.history.items; published = c.self.inside.published.length; seats = ss }) c.self.inside.effects.items (record { server = c.in_ok-server.server; clients = c.push.new.self.items })) (sym seats_are)
+          (subst (λ (ks : List ClientState). IsRun (record { size = c.self.inside.size; history = c.self.inside.history.items; published = c.self.inside.published.length; seats = seats ++ new_seat c.args.name.now ∷ [] }) c.self.inside.effects.items (record { server = c.in_ok-server.server; clients = ks })) (sym clients_are) run);
+      published = c.self.invariant.published;
+    }

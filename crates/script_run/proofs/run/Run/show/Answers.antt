@@ -1,4 +1,4 @@
-use Rattle.std.proofs.Common.{◌≡◌, ◌<◌, sym, ◌∙◌, ap, subst, length}
+use Rattle.std.proofs.Common.{◌<◌, sym, ◌∙◌, ap, subst, length}
 use Rattle.sheet_text.specs.Shown.{shown_placed}
 use Rattle.sheet_text.specs.Texts.{sheet_text, head_text}
 use Rattle.script_run.specs.World.{World}
@@ -20,5 +20,5 @@ returns c =
     if_ok c.sheet_lines.result (λ t is.
     is ∙ ((λ i. sheet_text (c.in_ok-head.ensures i) (shown_placed (c.sheet-2.ensures i)))
     ∙ ((λ i. sheet_text (head_text s.name s.taken (c.pending.ensures i) (shown_placed (c.sheet.ensures i))) (shown_placed k.sheet))
-    ∙ (shown_here _ _ _ c.self.invariant c.args.place (place_here at) s c.index-seat.ensures k c.index-client.ensures
+    ∙ (shown_here _ _ _ c.self.invariant.run c.args.place (place_here at) s c.index-seat.ensures k c.index-client.ensures
     ∙ ap (λ (w : World). show_text w c.args.place) c.self.view_is)))) c.sheet_lines.ensures

@@ -12,4 +12,4 @@ returns c =
     if_ok c.sheet_lines.result (λ t is.
     is ∙ ((λ i. sheet_text (c.in_ok-head.ensures i) (shown_placed (c.sheet-2.ensures i)))
     ∙ ((λ i. sheet_text (server_head_text (c.count.ensures i) (shown_placed (c.sheet.ensures i))) (shown_placed c.self.inside.server.sheet))
-    ∙ (shown_server _ _ _ c.self.invariant ∙ ap (λ (w : World). server_text w) c.self.view_is)))) c.sheet_lines.ensures
+    ∙ (shown_server _ _ _ c.self.invariant.run ∙ ap (λ (w : World). server_text w) c.self.view_is)))) c.sheet_lines.ensures

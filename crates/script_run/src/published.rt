@@ -1,0 +1,165 @@
+ghost use Rattle.std.specs.Prelude.{◌≡◌, ◌<◌, ◌≤◌, ◌+◌, true, false, IfOk, OnOk, OnErr};
+ghost use Rattle.sheet_grid.specs.Values.{placed_in};
+ghost use Rattle.sheet_ops.specs.Effects.{StepsTo};
+ghost use Rattle.sheet_ops.specs.Fits.{EffectFits, HasRoom, IsWellFormed};
+ghost use Rattle.sheet_ops.specs.Identity.{IdSheet, opened};
+ghost use Rattle.sheet_ops.specs.Placed.{placed, placed_size};
+ghost use Rattle.full_calc.specs.Values.{value_table};
+ghost use Rattle.script_run.specs.Runs.{PublishedIs};
+ghost use Rattle.script_run.specs.Transcript.{all_text, range_values_text};
+
+use cell_eval::Steps;
+use full_calc::values;
+use sheet_grid::Sheet;
+use sheet_ops::{EditErr, Effect};
+use sheet_text::{read_head, refusal, value_lines, values_head};
+use sheet_value::Grid;
+use ss_base::{Memory, Size, Span, Txt};
+use std::alloc::Global;
+use std::marker::Brand;
+use std::sync::ledger::{Blank, Ledger};
+
+/// The sheet of the entries of a history that are published, and the values of its last evaluation.
+#[derive(Debug, Drop)]
+pub struct Published {
+    /// How many entries are published.
+    pub length: u32,
+    sheet: Sheet,
+    values: Grid,
+    /// Whether no entry was published since that evaluation.
+    is_current: bool,
+}
+
+impl Published {
+    /// The opening sheet of a size: no entry is published.
+    pub fn new(alloc: Global, size: Size) -> Result<Published, Memory>
+        requires rows { size.rows ≤ 1000 }
+        requires cols { size.cols ≤ 64 }
+        ensures length { IfOk result (λ p. p.length ≡ 0) }
+        ensures is { IfOk result (λ p. PublishedIs (opened size) p) }
+    {
+        let sheet = Sheet::new(alloc, size)?;
+        let values = Grid::new(alloc, size)?;
+        Ok(Published {
+            length: 0,
+            sheet,
+            values,
+            is_current: false,
+        })
+    }
+
+    /// Publishes one more entry, which has this effect on the sheet. A refused call leaves what is
+    /// published.
+    pub fn advance(&mut self, effect: &Effect) -> Result<(), Memory>
+        requires fits { EffectFits (placed_size (placed_in self.old.sheet)) effect.now }
+        requires room { HasRoom (placed_size (placed_in self.old.sheet)) effect.now }
+        requires few { self.old.length < 8000 }
+        ensures length { OnOk result (self.new.length ≡ self.old.length + 1) }
+        ensures step { OnOk result (StepsTo (placed_in self.old.sheet) effect.now (placed_in self.new.sheet)) }
+        ensures values { OnOk result (self.new.is_current ≡ false) }
+        ensures err { OnErr result (self.new ≡ self.old) }
+    {
+        self.sheet.apply(effect)?;
+        self.length += 1;
+        self.is_current = false;
+        Ok(())
+    }
+
+    /// The text of all values. It takes the time of a full evaluation where there was none since the
+    /// last entry was published, and that of the text.
+    pub fn all_text(&mut self, alloc: Global) -> Result<Txt, Memory>
+        ensures text { (X : IdSheet) → IsWellFormed X → PublishedIs X self.old → IfOk result (λ t. t ≡ all_text self.old.length (value_table X)) }
+        ensures stays { (X : IdSheet) → IsWellFormed X → PublishedIs X self.old → PublishedIs X self.new }
+        ensures length { self.new.length ≡ self.old.length }
+    {
+        self.evaluate(alloc)?;
+        all_text(alloc, self.length, &self.values)
+    }
+
+    /// What the site of this name reads in a range, which is refused by the number of its line where it
+    /// isn't in the visible sheet. It takes time as the text of all values does.
+    pub fn range_text(
+        &mut self,
+        alloc: Global,
+        number: u32,
+        name: &Txt,
+        range: &Span,
+    ) -> Result<Txt, Memory>
+        requires rows { range.now.top ≤ range.now.bottom }
+        requires cols { range.now.left ≤ range.now.right }
+        ensures text { (X : IdSheet) → IsWellFormed X → PublishedIs X self.old → IfOk result (λ t. t ≡ range_values_text number name.now range.now self.old.length (value_table X)) }
+        ensures stays { (X : IdSheet) → IsWellFormed X → PublishedIs X self.old → PublishedIs X self.new }
+        ensures length { self.new.length ≡ self.old.length }
+    {
+        self.evaluate(alloc)?;
+        range_text(alloc, number, name, range, self.length, &self.values)
+    }
+
+    /// Evaluates the sheet in full, unless the values that are kept are its values.
+    fn evaluate(&mut self, alloc: Global) -> Result<(), Memory>
+        ensures current { OnOk result (self.new.is_current ≡ true) }
+        ensures stays { (X : IdSheet) → IsWellFormed X → PublishedIs X self.old → PublishedIs X self.new }
+        ensures length { self.new.length ≡ self.old.length }
+    {
+        if !self.is_current {
+            self.values = evaluated(alloc, &self.sheet)?;
+            self.is_current = true;
+        }
+        Ok(())
+    }
+}
+
+/// The values of a sheet, evaluated in full. Nobody counts the evaluations.
+pub fn evaluated(alloc: Global, sheet: &Sheet) -> Result<Grid, Memory>
+    ensures { IfOk result (λ g. (X : IdSheet) → IsWellFormed X → placed X ≡ placed_in sheet.now → g ≡ value_table X) }
+{
+    counted::<Brand>(alloc, sheet, Blank::new(1))
+}
+
+/// The same in a ledger that counts the evaluations.
+fn counted<G: Ledger>(alloc: Global, sheet: &Sheet, blank: Blank) -> Result<Grid, Memory>
+    requires name { blank.name ≡ G.name }
+    requires parts { blank.parts ≡ G.parts }
+    requires some { 0 < blank.parts }
+    ensures { IfOk result (λ g. (X : IdSheet) → IsWellFormed X → placed X ≡ placed_in sheet.now → g ≡ value_table X) }
+{
+    let mut steps = Steps::<G>::new(blank);
+    values(alloc, sheet, &mut steps)
+}
+
+/// The text of all values, evaluated at a length of the history.
+fn all_text(alloc: Global, length: u32, grid: &Grid) -> Result<Txt, Memory>
+    ensures { IfOk result (λ t. t ≡ all_text length grid.now) }
+{
+    let size = grid.size();
+    let head = values_head(alloc, length, size)?;
+    value_lines(alloc, &head, grid, 0..size.rows, 0..size.cols)
+}
+
+/// The text of the values in a range, or that of its refusal.
+fn range_text(
+    alloc: Global,
+    number: u32,
+    name: &Txt,
+    range: &Span,
+    length: u32,
+    grid: &Grid,
+) -> Result<Txt, Memory>
+    requires rows { range.now.top ≤ range.now.bottom }
+    requires cols { range.now.left ≤ range.now.right }
+    ensures { IfOk result (λ t. t ≡ range_values_text number name.now range.now length grid.now) }
+{
+    let size = grid.size();
+    if range.bottom < size.rows && range.right < size.cols {
+        let head = read_head(alloc, name, length, range)?;
+        value_lines(
+            alloc,
+            &head,
+            grid,
+            range.top..range.bottom + 1,
+            range.left..range.right + 1,
+        )
+    } else {
+        refusal(alloc, number, EditErr::OutOfSheet)
+    }
+}
