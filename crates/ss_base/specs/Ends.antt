@@ -6,9 +6,9 @@ abbrev pub count_up : ℕ → ℕ
 count_up n = min (n + 1) (2 ^ 64 - 1)
 
 -- a count of failures after a call that answered this
-abbrev pub counted : {T E : Type 0} → ℕ → Result T E → ℕ
-counted n (Ok _) = n
-counted n (Err _) = count_up n
+abbrev pub failures_after : {T E : Type 0} → ℕ → Result T E → ℕ
+failures_after n (Ok _) = n
+failures_after n (Err _) = count_up n
 
 -- What is seen of an end over a reader or a writer.
 pub record EndState : Type 0 where

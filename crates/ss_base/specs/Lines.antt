@@ -1,9 +1,10 @@
 -- The lines of bytes: pieces that end at line feeds. A last piece without one is a line unless it is empty.
-use Rattle.std.specs.Prelude.{ℕ, ◌≡◌, ◌+◌, ◌<◌, ◌≤◌, ◌⊎◌, nat_eq, nat_lt, ◌||◌, Bool, true, false, if◌then◌else◌, List, [], ◌∷◌, ◌++◌, length, Option, Some, None, Result, Ok, Err}
+use Rattle.std.specs.Prelude.{ℕ, ◌≡◌, ◌≢◌, ◌+◌, ◌<◌, ◌≤◌, ◌⊎◌, nat_eq, nat_lt, ◌||◌, Bool, true, false, if◌then◌else◌, List, [], ◌∷◌, ◌++◌, length, Option, Some, None, Result, Ok, Err}
 use Rattle.ss_base.specs.declared.lines.Turn.{Turn}
 use Rattle.ss_base.specs.declared.lines.Turn.TheVariants as turn
 use Rattle.ss_base.specs.declared.lines.LineErr.{LineErr}
 use Rattle.ss_base.specs.declared.lines.LineErr.TheVariants as fault
+use Rattle.ss_base.specs.Search.{NoFeed}
 
 -- a line without its line feed, and how many bytes there are up to its end, its line feed among them
 pub record Line : Type 0 where
@@ -60,3 +61,35 @@ MovesOn old new held (Ok turn.Line) =
 MovesOn old new held (Ok turn.End) = new ≡ old
 MovesOn old new held (Err fault.TooLong) = new ≡ old
 MovesOn old new held (Err fault.ReadFault) = new ≡ old
+
+-- the bytes of those lines
+abbrev pub bytes_left : FeedState → Option (List ℕ) → Option (List ℕ)
+bytes_left f None = None
+bytes_left f (Some left) = Some (f.ahead ++ left)
+
+-- A line is taken from the front of the bytes that are left, with its line feed; or all of them are, which have none.
+abbrev pub TakesFed : FeedState → FeedState → List ℕ → List ℕ → Type 0
+TakesFed old new before after = (before ≡ new.line ++ 10 ∷ after) × (new.used ≡ old.used + length new.line + 1)
+
+abbrev pub TakesLast : FeedState → FeedState → List ℕ → List ℕ → Type 0
+TakesLast old new before after = (before ≡ new.line) × (after ≡ []) × (before ≢ []) × (new.used ≡ old.used + length new.line)
+
+abbrev pub TakesLine : FeedState → FeedState → List ℕ → List ℕ → Type 0
+TakesLine old new before after = NoFeed new.line × (TakesFed old new before after ⊎ TakesLast old new before after)
+
+-- Which bytes a reading uses up, by the bytes left before and after it: those of a line that it gives, and else none.
+abbrev pub UsesBytes : FeedState → FeedState → Option (List ℕ) → Option (List ℕ) → Result Turn LineErr → Type 0
+UsesBytes old new None None r = Unit {0}
+UsesBytes old new None (Some after) r = ⊥
+UsesBytes old new (Some before) None r = ⊥
+UsesBytes old new (Some before) (Some after) (Ok turn.Line) = TakesLine old new before after
+UsesBytes old new (Some before) (Some after) (Ok turn.End) = after ≡ before
+UsesBytes old new (Some before) (Some after) (Err e) = after ≡ before
+
+-- What was read and belongs to no line that was given: behind a line fewer bytes than one read gives, at the end none, and at a
+-- fault no whole line.
+abbrev pub IsAhead : List ℕ → Result Turn LineErr → Type 0
+IsAhead ahead (Ok turn.Line) = length ahead < 8192
+IsAhead ahead (Ok turn.End) = ahead ≡ []
+IsAhead ahead (Err fault.TooLong) = Unit {0}
+IsAhead ahead (Err fault.ReadFault) = NoFeed ahead

@@ -33,4 +33,4 @@ StopsAt line ahead left (Ok found.Feed) = (rest : List ℕ) × (ahead ≡ 10 ∷
 StopsAt line ahead left (Ok found.End) = (ahead ≡ []) × IsEndOf left
 StopsAt line ahead left (Err fault.TooLong) =
     (length line ≡ 4096) × ((b : ℕ) × (rest : List ℕ) × (ahead ≡ b ∷ rest) × (nat_eq b 10 ≡ false))
-StopsAt line ahead left (Err fault.ReadFault) = Unit {0}
+StopsAt line ahead left (Err fault.ReadFault) = ahead ≡ []

@@ -1,6 +1,6 @@
 ghost use Rattle.std.specs.Prelude.{◌≡◌, ◌≤◌, [], length, IfOk, IsErrOf, if◌then◌else◌, vec_capacity};
 ghost use Rattle.ss_base.specs.Streams.{Rose};
-ghost use Rattle.ss_base.specs.Lines.{FeedState, lines_left, GivesLine, MovesOn};
+ghost use Rattle.ss_base.specs.Lines.{FeedState, lines_left, bytes_left, GivesLine, UsesBytes, IsAhead, MovesOn};
 
 use crate::lines::{LineErr, Turn};
 use crate::search::{Ahead, Found, LONGEST, find};
@@ -54,11 +54,14 @@ impl LineFeed {
     /// `TooLong` comes exactly where that line has more than 4,096 bytes without its line feed or ends
     /// behind byte 1,048,576, and comes again at each later call. `ReadFault` comes only where the
     /// source's count of faults rose in this call; what was read so far stays, and a later call goes on
-    /// behind it.
+    /// behind it. The source is read only where no whole line is at hand.
     pub fn read_line<S: Source>(&mut self, source: &mut S) -> Result<Turn, LineErr>
         ensures line { GivesLine (lines_left self.old (S.left source.old))
             (lines_left self.new (S.left source.new)) self.new.line result }
         ensures progress { MovesOn self.old.used self.new.used self.new.line result }
+        ensures bytes { UsesBytes self.old self.new (bytes_left self.old (S.left source.old))
+            (bytes_left self.new (S.left source.new)) result }
+        ensures ahead { IsAhead self.new.ahead result }
         ensures count { S.faults source.old ≤ S.faults source.new }
         ensures cause { IsErrOf result LineErr.ReadFault →
             Rose (S.faults source.old) (S.faults source.new) }

@@ -31,7 +31,7 @@ impl Model for Ahead {
 
     ghost view = { λ s. drop s.at (take s.end s.bytes.items) };
 
-    ghost invariant = { λ s. (s.at ≤ s.end) × (s.end ≤ vec_len s.bytes) × (0 < vec_len s.bytes) };
+    ghost invariant = { λ s. (s.at ≤ s.end) × (s.end ≤ vec_len s.bytes) × (0 < vec_len s.bytes) × (vec_len s.bytes ≤ 8192) };
 }
 
 impl Ahead {
@@ -52,6 +52,7 @@ impl Ahead {
         ensures end { OnOk result (self.new ≡ [] → IsEndOf (S.left source.new)) }
         ensures count { S.faults source.old ≤ S.faults source.new }
         ensures cause { OnErr result (Rose (S.faults source.old) (S.faults source.new)) }
+        ensures err { OnErr result (self.new ≡ []) }
     {
         if self.at < self.end {
             return Ok(());
@@ -76,7 +77,8 @@ impl Ahead {
     /// Steps over the byte that comes next.
     pub(crate) fn skip(&mut self)
         requires { 0 < length self.old }
-        ensures { self.new ≡ drop 1 self.old }
+        ensures rest { self.new ≡ drop 1 self.old }
+        ensures few { length self.new < 8192 }
     {
         self.at += 1;
     }

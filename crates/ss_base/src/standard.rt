@@ -1,7 +1,7 @@
 ghost use Rattle.std.specs.Prelude.{◌≡◌, ◌<◌, ◌≤◌, length, IfOk, OnErr};
 ghost use Rattle.std.specs.Io.KnownBytes.{ReadConsumes, WriteAppends};
 ghost use Rattle.ss_base.specs.Streams.{Rose};
-ghost use Rattle.ss_base.specs.Ends.{counted};
+ghost use Rattle.ss_base.specs.Ends.{failures_after};
 
 use crate::stream::{Sink, Source};
 use crate::types::Failed;
@@ -42,7 +42,7 @@ impl<R: Read> Source for StdSource<R> {
 
     fn read(&mut self, buf: &mut [u8]) -> Result<usize, Failed>
         ensures within { IfOk result (λ n. n ≤ length buf.new) }
-        ensures counted { self.new.faults ≡ counted self.old.faults result }
+        ensures counted { self.new.faults ≡ failures_after self.old.faults result }
         ensures passed { ReadConsumes self.old.known self.new.known result buf.new }
         ensures count { self.old.faults ≤ self.new.faults }
         ensures cause { OnErr result (Rose self.old.faults self.new.faults) }
@@ -93,7 +93,7 @@ impl<W: Write> Sink for StdSink<W> {
     fn write(&mut self, piece: &[u8]) -> Result<usize, Failed>
         ensures within { IfOk result (λ n. n ≤ length piece.now) }
         ensures some { 0 < length piece.now → IfOk result (λ n. 0 < n) }
-        ensures counted { self.new.faults ≡ counted self.old.faults result }
+        ensures counted { self.new.faults ≡ failures_after self.old.faults result }
         ensures passed { WriteAppends self.old.known self.new.known result piece.now }
         ensures count { self.old.faults ≤ self.new.faults }
         ensures cause { OnErr result (Rose self.old.faults self.new.faults) }

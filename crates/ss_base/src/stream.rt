@@ -42,7 +42,7 @@ pub trait Sink {
 }
 
 /// Writes the whole piece, at least a byte a turn, and takes no memory. `Failed` comes only where the
-/// sink's count of faults rose in this call; a prefix of the piece was taken then.
+/// sink's count of faults rose in this call; a prefix of the piece was taken then, and not all.
 pub fn write_all<K: Sink>(sink: &mut K, piece: &[u8]) -> Result<(), Failed>
     ensures ok { OnOk result (AddsBack (K.taken sink.old) (K.taken sink.new) piece.now) }
     ensures count { K.faults sink.old ≤ K.faults sink.new }

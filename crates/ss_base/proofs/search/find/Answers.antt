@@ -9,5 +9,5 @@ loop-ahead-preserved g c =
       short = omega (arith, c.push_reserved.ensures.len, c.if-len-eq-LONGEST.false, c.len.ensures, c.loop-ahead.invariant.short);
       room = omega (arith, c.push_reserved.ensures.capacity, c.loop-ahead.invariant.room);
       count = omega (arith, c.fill.ensures.count, c.loop-ahead.invariant.count);
-      told = Refills-push _ _ _ c.loop-ahead.line.items c.fill.new.self _ _ c.in-Some.byte rest (Refills-on _ _ _ _ _ _ _ c.loop-ahead.invariant.told c.fill.ensures.told) next c.push_reserved.ensures.items c.skip.ensures;
+      told = Refills-push _ _ _ c.loop-ahead.line.items c.fill.new.self _ _ c.in-Some.byte rest (Refills-on _ _ _ _ _ _ _ c.loop-ahead.invariant.told c.fill.ensures.told) next c.push_reserved.ensures.items c.skip.ensures.rest;
     }

@@ -31,7 +31,7 @@ returns-else-end-gt-LAST-clause-line g c =
     let told = told_from c.args.self.now c.self.inside (g.S.Source.left c.args.source.now) (g.S.Source.left c.find.new.source) c.keep.new.line.items c.find.new.line.items c.find.new.ahead c.self.view_is c.keep.ensures.items c.find.ensures.told in
     let used = ap (λ (f : FeedState). f.used) c.self.view_is in
     let stop = rw c.in-Feed.is at c.in_ok-find.ensures.stop in
-    gives_fed c.args.self.now c.find.new.line.items c.find.new.ahead _ _ c.find.ensures.plain _ _ stop.0 told stop.1 (c.skip.ensures ∙ ap (drop 1) stop.1)
+    gives_fed c.args.self.now c.find.new.line.items c.find.new.ahead _ _ c.find.ensures.plain _ _ stop.0 told stop.1 (c.skip.ensures.rest ∙ ap (drop 1) stop.1)
     (omega (arith, c.len.ensures, c.find.new.line.ok.0))
     (omega (arith, c.find.ensures.short, c.find.new.line.ok.0)) (omega (arith, c.if-end-gt-LAST.false))
 
