@@ -8,7 +8,7 @@ use Rattle.std.proofs.lemmas.Bool.Decides.{nat_tests}
 use Rattle.std.proofs.lemmas.Str.Parse.{digits_value-take-le}
 use Rattle.std.proofs.lemmas.List.{take-take}
 use Rattle.sheet_ops.specs.Numerals.{are_digits}
-use Rattle.author_ops.specs.Numbers.{signed_number, number_after, number_of, begins_number, longest_front, number_front}
+use Rattle.author_ops.specs.Numbers.{signed_number, number_after, entered_number, begins_number, longest_front, number_front}
 
 -- the longest front is the one behind which none passes
 longest_is : (test : List ℕ → Bool) (bs : List ℕ) (p n : ℕ) → p ≤ n → test (take p bs) ≡ true → ((q : ℕ) → p < q → q ≤ n → test (take q bs) ≡ false) → p ≡ longest_front test bs n
@@ -98,7 +98,7 @@ module _ (ds : List ℕ) (digits : list_all is_ascii_digit ds ≡ true) (n : ℕ
   begins_minus : (q : ℕ) → begins_number (45 ∷ take q ds) ≡ (nat_eq (length (take q ds)) 0 || is_some (number_after true (take q ds)))
   begins_minus q = refl
 
-  pub minus_outside : number_of (45 ∷ ds) ≡ None
+  pub minus_outside : entered_number (45 ∷ ds) ≡ None
   minus_outside = subst (λ (xs : List ℕ). number_after true xs ≡ None) (whole_front ds) (after_out true ds digits n few low high (length ds) few (omega arith))
 
   pub minus_front : n + 1 ≡ number_front (45 ∷ ds)
@@ -135,7 +135,7 @@ digit_no_minus d ds h = by_tests (nat_le 48 d) (nat_le d 57) refl h
     by_tests true b e f = grind (arith, nat_tests)
     by_tests false b e f = absurd (cc)
 
-pub number_plain : (d : ℕ) (ds : List ℕ) → list_all is_ascii_digit (d ∷ ds) ≡ true → number_of (d ∷ ds) ≡ number_after false (d ∷ ds)
+pub number_plain : (d : ℕ) (ds : List ℕ) → list_all is_ascii_digit (d ∷ ds) ≡ true → entered_number (d ∷ ds) ≡ number_after false (d ∷ ds)
 number_plain d ds h = rw (digit_no_minus d ds h) refl
 
 module _ (ds : List ℕ) (digits : list_all is_ascii_digit ds ≡ true) (n : ℕ) (few : n < length ds) (low : digits_value 10 (take n ds) ≤ 2 ^ 63 - 1) (high : 2 ^ 63 - 1 < digits_value 10 (take (n + 1) ds)) where
@@ -143,10 +143,10 @@ module _ (ds : List ℕ) (digits : list_all is_ascii_digit ds ≡ true) (n : ℕ
   plain [] h k = absurd (omega arith)
   plain (x ∷ xs) h k = rw (digit_no_minus x xs h) refl
 
-  pub plain_outside : number_of ds ≡ None
+  pub plain_outside : entered_number ds ≡ None
   plain_outside = whole ds digits (omega arith) ∙ subst (λ (xs : List ℕ). number_after false xs ≡ None) (whole_front ds) (after_out false ds digits n few low high (length ds) few (omega arith))
     where
-      whole : (xs : List ℕ) → list_all is_ascii_digit xs ≡ true → 0 < length xs → number_of xs ≡ number_after false xs
+      whole : (xs : List ℕ) → list_all is_ascii_digit xs ≡ true → 0 < length xs → entered_number xs ≡ number_after false xs
       whole [] h k = absurd (omega arith)
       whole (x ∷ xs) h k = number_plain x xs h
 

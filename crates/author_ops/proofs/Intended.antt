@@ -21,7 +21,7 @@ use Rattle.sheet_ops.specs.Numerals.{is_numeral}
 use Rattle.sheet_ops.specs.Weights.{weight_of_intent}
 use Rattle.sheet_ops.proofs.References.{images_each}
 use Rattle.sheet_ops.proofs.Visible.{visible_below}
-use Rattle.author_ops.specs.Numbers.{number_of, number_front}
+use Rattle.author_ops.specs.Numbers.{entered_number, number_front}
 use Rattle.author_ops.specs.Entries.{pair_seen, typed, formula_entered, number_entered, entered}
 use Rattle.author_ops.specs.Edits.{place_seen, write_one, unless_heavy, written_at}
 
@@ -88,7 +88,7 @@ module _ (P : PlacedSheet) where
 
   -- ---- entries
   number_inside : (entry : List ℕ) (c : Content) → number_entered entry ≡ Ok c → ContentFits size c
-  number_inside entry c e = by_number (number_of entry) e
+  number_inside entry c e = by_number (entered_number entry) e
     where
       by_number : (z : Option ℤ) → ◌≡◌ {A = Result Content EditErr} (elim z as (λ _. Result Content EditErr) [ Some n ↦ Ok (content.Num n) | None ↦ Err (fault.BadFormula (number_front entry)) ]) (Ok c) → ContentFits size c
       by_number None e = absurd (cc)

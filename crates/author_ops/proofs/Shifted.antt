@@ -31,7 +31,7 @@ use Rattle.sheet_ops.specs.Placed.{PlacedSheet, placed, placed_size, cell_at}
 use Rattle.sheet_ops.proofs.References.{images_each}
 use Rattle.sheet_ops.proofs.Visible.{visible_below}
 use Rattle.author_ops.specs.declared.axis.Shift.{Shift}
-use Rattle.author_ops.specs.Copies.{shifted, line_shifted, ends_shifted, both_of, cell_of, range_of, content_copied, first_cell, line_count, are_seen, line_pairs, copied_puts}
+use Rattle.author_ops.specs.Copies.{shifted_index, line_shifted, ends_shifted, both_of, cell_reference, range_reference, content_copied, first_cell, line_count, are_seen, line_pairs, copied_puts}
 use Rattle.author_ops.specs.Placed.{cell_shifted, range_shifted, content_shifted, put_shifted, puts_shifted, row_shift, col_shift, puts_by, copy_by}
 use Rattle.author_ops.specs.Edits.{unless_heavy, copy_on}
 use Rattle.author_ops.proofs.Intended.{between_inside, light_fits}
@@ -208,7 +208,7 @@ module _ (X : IdSheet) where
 module _ (P : PlacedSheet) (rows cols : Shift) where
   line_inside : (ms : List Bool) (from to : ℕ) (abs : Bool) (o : Option ℕ) (p : ℕ) → option_and_then (line_shifted ms from to abs) o ≡ Some p → p < length ms
   line_inside ms from to abs None p e = absurd (cc)
-  line_inside ms from to abs (Some v) p e = by_index (shifted from to abs v) e
+  line_inside ms from to abs (Some v) p e = by_index (shifted_index from to abs v) e
     where
       by_index : (w : Option ℕ) → option_and_then (λ w. slice_get (visible_places ms) w) w ≡ Some p → p < length ms
       by_index None e = absurd (cc)
@@ -229,22 +229,22 @@ module _ (P : PlacedSheet) (rows cols : Shift) where
           subst (λ (m : ℕ × ℕ). (m.0 < length ms) × (m.1 < length ms)) same (one_inside ms from to f seen.0 p ea, one_inside ms from to l seen.1 q eb)
 
   cell_inside : (row_abs col_abs : Bool) (a b : Option ℕ) (d : Spot) → ((p : ℕ) → a ≡ Some p → p < length P.rows) → ((q : ℕ) → b ≡ Some q → q < length P.cols) →
-      option_map (cell_of row_abs col_abs) (both_of a b) ≡ Some d → CellFits (placed_size P) d
+      option_map (cell_reference row_abs col_abs) (both_of a b) ≡ Some d → CellFits (placed_size P) d
   cell_inside row_abs col_abs None b d f g e = absurd (cc)
   cell_inside row_abs col_abs (Some p) None d f g e = absurd (cc)
   cell_inside row_abs col_abs (Some p) (Some q) d f g e =
-      let same : cell_of row_abs col_abs (p, q) ≡ d = cc in
+      let same : cell_reference row_abs col_abs (p, q) ≡ d = cc in
       subst (λ (x : Spot). CellFits (placed_size P) x) same (f p refl, g q refl)
 
   range_inside : (t l b r : Bool) (u v : Option (ℕ × ℕ)) (d : Span) → ((m : ℕ × ℕ) → u ≡ Some m → (m.0 < length P.rows) × (m.1 < length P.rows)) → ((m : ℕ × ℕ) → v ≡ Some m → (m.0 < length P.cols) × (m.1 < length P.cols)) →
-      option_map (range_of t l b r) (both_of u v) ≡ Some d → RangeFits (placed_size P) d
+      option_map (range_reference t l b r) (both_of u v) ≡ Some d → RangeFits (placed_size P) d
   range_inside t l b r None v d f g e = absurd (cc)
   range_inside t l b r (Some m) None d f g e = absurd (cc)
   range_inside t l b r (Some m) (Some n) d f g e =
-      let same : range_of t l b r (m, n) ≡ d = cc in
+      let same : range_reference t l b r (m, n) ≡ d = cc in
       let row = f m refl in
       let col = g n refl in
-      subst (λ (x : Span). RangeFits (placed_size P) x) same (between_inside P (cell_of t l (m.0, n.0)) (cell_of b r (m.1, n.1)) (row.0, col.0) (row.1, col.1))
+      subst (λ (x : Span). RangeFits (placed_size P) x) same (between_inside P (cell_reference t l (m.0, n.0)) (cell_reference b r (m.1, n.1)) (row.0, col.0) (row.1, col.1))
 
   -- ---- what is copied can be spelled
   ordered : (a b : ℕ) → cond (nat_le a b) a b ≤ cond (nat_le a b) b a
@@ -254,11 +254,11 @@ module _ (P : PlacedSheet) (rows cols : Shift) where
       by_order true h = grind (arith, nat_tests)
       by_order false h = grind (arith, nat_tests)
 
-  range_ordered : (t l b r : Bool) (u v : Option (ℕ × ℕ)) (d : Span) → option_map (range_of t l b r) (both_of u v) ≡ Some d → (d.top ≤ d.bottom) × (d.left ≤ d.right)
+  range_ordered : (t l b r : Bool) (u v : Option (ℕ × ℕ)) (d : Span) → option_map (range_reference t l b r) (both_of u v) ≡ Some d → (d.top ≤ d.bottom) × (d.left ≤ d.right)
   range_ordered t l b r None v d e = absurd (cc)
   range_ordered t l b r (Some m) None d e = absurd (cc)
   range_ordered t l b r (Some m) (Some n) d e =
-      let same : range_of t l b r (m, n) ≡ d = cc in
+      let same : range_reference t l b r (m, n) ≡ d = cc in
       subst (λ (x : Span). (x.top ≤ x.bottom) × (x.left ≤ x.right)) same (ordered m.0 m.1, ordered n.0 n.1)
 
   cell_formed : (o : Option Spot) → length P.rows ≤ 16000 → length P.cols ≤ 16000 → ((d : Spot) → o ≡ Some d → CellFits (placed_size P) d) → IsWellFormed (cell_or_lost {C = Spot} {R = Span} o)

@@ -15,12 +15,12 @@ use Rattle.sheet_ops.specs.Lines.{rec_place, slot_place, rec_at, marks}
 use Rattle.sheet_ops.specs.Identity.{IdCell, IdRange, IdContent, blank, number, text, formula, IdSheet}
 
 -- a visible index as far behind `to` as it is behind `from`, with a `$` the same; none before the first line
-abbrev pub shifted : ℕ → ℕ → Bool → ℕ → Option ℕ
-shifted from to abs v = if abs then Some v else if nat_le from (v + to) then Some (v + to - from) else None
+abbrev pub shifted_index : ℕ → ℕ → Bool → ℕ → Option ℕ
+shifted_index from to abs v = if abs then Some v else if nat_le from (v + to) then Some (v + to - from) else None
 
 -- the position of the visible line there, if there is one
 abbrev pub line_shifted : List Bool → ℕ → ℕ → Bool → ℕ → Option ℕ
-line_shifted marks from to abs v = option_and_then (λ w. slice_get (visible_places marks) w) (shifted from to abs v)
+line_shifted marks from to abs v = option_and_then (λ w. slice_get (visible_places marks) w) (shifted_index from to abs v)
 
 -- of the first and of the last visible line of a range, each by its own `$`
 abbrev pub ends_shifted : List Bool → ℕ → ℕ → Bool → Bool → ℕ × ℕ → Option (ℕ × ℕ)
@@ -33,23 +33,23 @@ both_of None b = None
 both_of (Some a) b = option_map (λ b. (a, b)) b
 
 -- a reference to a cell, by the positions of the row and the column
-abbrev pub cell_of : Bool → Bool → ℕ × ℕ → Spot
-cell_of abs_row abs_col at = record { row = at.0; col = at.1; abs_row = abs_row; abs_col = abs_col }
+abbrev pub cell_reference : Bool → Bool → ℕ × ℕ → Spot
+cell_reference abs_row abs_col at = record { row = at.0; col = at.1; abs_row = abs_row; abs_col = abs_col }
 
 -- a reference to a range, put in order again, by the positions of its rows and of its columns
-abbrev pub range_of : Bool → Bool → Bool → Bool → (ℕ × ℕ) × (ℕ × ℕ) → Span
-range_of abs_top abs_left abs_bottom abs_right at = range_between (cell_of abs_top abs_left (at.0.0, at.1.0)) (cell_of abs_bottom abs_right (at.0.1, at.1.1))
+abbrev pub range_reference : Bool → Bool → Bool → Bool → (ℕ × ℕ) × (ℕ × ℕ) → Span
+range_reference abs_top abs_left abs_bottom abs_right at = range_between (cell_reference abs_top abs_left (at.0.0, at.1.0)) (cell_reference abs_bottom abs_right (at.0.1, at.1.1))
 
 module _ (X : IdSheet) (from to : Spot) where
   -- a reference to a cell is lost where its record or its column is dead, or where it would leave the visible sheet
   abbrev pub cell_copied : IdCell → Option Spot
-  cell_copied c = option_map (cell_of c.abs_row c.abs_col) (both_of
+  cell_copied c = option_map (cell_reference c.abs_row c.abs_col) (both_of
       (option_and_then (line_shifted (marks X.rows) from.row to.row c.abs_row) (visible_of (marks X.rows) (rec_place X.rows c.row)))
       (option_and_then (line_shifted (marks X.cols) from.col to.col c.abs_col) (visible_of (marks X.cols) (rec_place X.cols c.col))))
 
   -- one to a range, which is seen from its first to its last visible line, where a corner would leave it
   abbrev pub range_copied : IdRange → Option Span
-  range_copied r = option_map (range_of r.abs_top r.abs_left r.abs_bottom r.abs_right) (both_of
+  range_copied r = option_map (range_reference r.abs_top r.abs_left r.abs_bottom r.abs_right) (both_of
       (option_and_then (ends_shifted (marks X.rows) from.row to.row r.abs_top r.abs_bottom) (span_of (marks X.rows) (slot_place X.rows r.top) (slot_place X.rows r.bottom)))
       (option_and_then (ends_shifted (marks X.cols) from.col to.col r.abs_left r.abs_right) (span_of (marks X.cols) (slot_place X.cols r.left) (slot_place X.cols r.right))))
 

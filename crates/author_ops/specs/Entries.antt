@@ -10,7 +10,7 @@ use Rattle.sheet_ops.specs.declared.edit.EditErr.{EditErr}
 use Rattle.sheet_ops.specs.declared.edit.EditErr.TheVariants as fault
 use Rattle.marked_lines.specs.Marks.{visible_places}
 use Rattle.sheet_ops.specs.Numerals.{is_numeral}
-use Rattle.author_ops.specs.Numbers.{number_of, number_front}
+use Rattle.author_ops.specs.Numbers.{entered_number, number_front}
 
 -- the positions of two visible lines
 abbrev pub pair_seen : List Bool → ℕ → ℕ → Option (ℕ × ℕ)
@@ -34,7 +34,7 @@ formula_entered rows cols (stops p) = Err (fault.BadFormula p)
 
 -- of a number; one out of range is refused
 abbrev pub number_entered : List ℕ → Result Content EditErr
-number_entered entry = elim (number_of entry) as (λ _. Result Content EditErr) [
+number_entered entry = elim (entered_number entry) as (λ _. Result Content EditErr) [
   | Some z ↦ Ok (content.Num z)
   | None ↦ Err (fault.BadFormula (number_front entry))
 ]

@@ -15,14 +15,14 @@ abbrev pub number_after : Bool → List ℕ → Option ℤ
 number_after minus digits = if are_digits digits then signed_number minus (digits_value 10 digits) else None
 
 -- the number that an entry is: an optional `-` and digits, in range
-abbrev pub number_of : List ℕ → Option ℤ
-number_of [] = None
-number_of (b ∷ bs) = if nat_eq b 45 then number_after true bs else number_after false (b ∷ bs)
+abbrev pub entered_number : List ℕ → Option ℤ
+entered_number [] = None
+entered_number (b ∷ bs) = if nat_eq b 45 then number_after true bs else number_after false (b ∷ bs)
 
 -- the entries that say a number in range begin so: with nothing, with a minus, or with another number in range
 abbrev pub begins_number : List ℕ → Bool
 begins_number [] = true
-begins_number (b ∷ bs) = (nat_eq b 45 && nat_eq (length bs) 0) || is_some (number_of (b ∷ bs))
+begins_number (b ∷ bs) = (nat_eq b 45 && nat_eq (length bs) 0) || is_some (entered_number (b ∷ bs))
 
 -- the length of the longest front of a text that passes, among those of so many bytes and fewer
 abbrev pub longest_front : (List ℕ → Bool) → List ℕ → ℕ → ℕ

@@ -15,26 +15,26 @@ use Rattle.sheet_ops.specs.declared.operation.Intent.TheVariants as intent
 use Rattle.sheet_ops.specs.declared.edit.EditErr.{EditErr}
 use Rattle.sheet_ops.specs.declared.edit.EditErr.TheVariants as fault
 use Rattle.sheet_ops.specs.Placed.{PlacedSheet, cell_at}
-use Rattle.author_ops.specs.declared.axis.Axis.{Axis}
-use Rattle.author_ops.specs.declared.axis.Axis.TheVariants as axis
+use Rattle.author_ops.specs.declared.axis.Dimension.{Dimension}
+use Rattle.author_ops.specs.declared.axis.Dimension.TheVariants as axis
 use Rattle.author_ops.specs.declared.axis.Shift.{Shift}
-use Rattle.author_ops.specs.Copies.{line_shifted, ends_shifted, both_of, cell_of, range_of, line_count, are_seen, line_pairs}
+use Rattle.author_ops.specs.Copies.{line_shifted, ends_shifted, both_of, cell_reference, range_reference, line_count, are_seen, line_pairs}
 use Rattle.author_ops.specs.Edits.{unless_heavy}
 use Rattle.author_ops.specs.Orders.{places_sorted}
 
 -- the marks of the rows, or of the columns
-abbrev pub marks_on : PlacedSheet → Axis → List Bool
+abbrev pub marks_on : PlacedSheet → Dimension → List Bool
 marks_on P axis.Rows = P.rows
 marks_on P axis.Cols = P.cols
 
 module _ (P : PlacedSheet) (rows cols : Shift) where
   abbrev pub cell_shifted : Spot → Option Spot
-  cell_shifted s = option_map (cell_of s.abs_row s.abs_col) (both_of
+  cell_shifted s = option_map (cell_reference s.abs_row s.abs_col) (both_of
       (option_and_then (line_shifted P.rows rows.from rows.to s.abs_row) (visible_of P.rows s.row))
       (option_and_then (line_shifted P.cols cols.from cols.to s.abs_col) (visible_of P.cols s.col)))
 
   abbrev pub range_shifted : Span → Option Span
-  range_shifted s = option_map (range_of s.abs_top s.abs_left s.abs_bottom s.abs_right) (both_of
+  range_shifted s = option_map (range_reference s.abs_top s.abs_left s.abs_bottom s.abs_right) (both_of
       (option_and_then (ends_shifted P.rows rows.from rows.to s.abs_top s.abs_bottom) (span_of P.rows s.top s.bottom))
       (option_and_then (ends_shifted P.cols cols.from cols.to s.abs_left s.abs_right) (span_of P.cols s.left s.right)))
 

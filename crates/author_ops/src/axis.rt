@@ -11,35 +11,35 @@ use std::alloc::Global;
 
 /// Rows or columns.
 #[derive(Clone, Copy, Debug, PartialEq, Eq)]
-pub enum Axis {
+pub enum Dimension {
     Rows,
     Cols,
 }
 
 /// How many lines of an axis are visible.
-pub fn visible(sheet: &Sheet, axis: Axis) -> u32
+pub fn visible(sheet: &Sheet, axis: Dimension) -> u32
     ensures value { result ≡ visible_count (marks_on (placed_in sheet.now) axis) }
     ensures few { result ≤ 16000 }
 {
     let size = sheet.visible();
     match axis {
-        Axis::Rows => size.rows,
-        Axis::Cols => size.cols,
+        Dimension::Rows => size.rows,
+        Dimension::Cols => size.cols,
     }
 }
 
 /// The position of the line with a visible index.
-pub fn line_at(sheet: &Sheet, axis: Axis, visible: u32) -> Option<u32>
+pub fn line_at(sheet: &Sheet, axis: Dimension, visible: u32) -> Option<u32>
     ensures { result ≡ slice_get (visible_places (marks_on (placed_in sheet.now) axis)) visible }
 {
     match axis {
-        Axis::Rows => sheet.row_at(visible),
-        Axis::Cols => sheet.col_at(visible),
+        Dimension::Rows => sheet.row_at(visible),
+        Dimension::Cols => sheet.col_at(visible),
     }
 }
 
 /// The position of a visible line that is there.
-pub fn place_of(sheet: &Sheet, axis: Axis, visible: u32) -> u32
+pub fn place_of(sheet: &Sheet, axis: Dimension, visible: u32) -> u32
     requires { visible < visible_count (marks_on (placed_in sheet.now) axis) }
     ensures { slice_get (visible_places (marks_on (placed_in sheet.now) axis)) visible ≡ Some result }
 {
@@ -50,29 +50,29 @@ pub fn place_of(sheet: &Sheet, axis: Axis, visible: u32) -> u32
 }
 
 /// The visible index of the line at a position.
-fn line_seen(sheet: &Sheet, axis: Axis, p: u32) -> Option<u32>
+fn line_seen(sheet: &Sheet, axis: Dimension, p: u32) -> Option<u32>
     ensures index { result ≡ visible_of (marks_on (placed_in sheet.now) axis) p }
     ensures few { IfSome result (λ v. v < 16000) }
 {
     match axis {
-        Axis::Rows => sheet.row_seen(p),
-        Axis::Cols => sheet.col_seen(p),
+        Dimension::Rows => sheet.row_seen(p),
+        Dimension::Cols => sheet.col_seen(p),
     }
 }
 
 /// The visible indexes of the first and of the last visible line between two positions.
-fn lines_seen(sheet: &Sheet, axis: Axis, first: u32, last: u32) -> Option<(u32, u32)>
+fn lines_seen(sheet: &Sheet, axis: Dimension, first: u32, last: u32) -> Option<(u32, u32)>
     ensures span { result ≡ span_of (marks_on (placed_in sheet.now) axis) first last }
     ensures few { IfSome result (λ seen. (seen.0 < 16000) × (seen.1 < 16000)) }
 {
     match axis {
-        Axis::Rows => sheet.rows_seen(first, last),
-        Axis::Cols => sheet.cols_seen(first, last),
+        Dimension::Rows => sheet.rows_seen(first, last),
+        Dimension::Cols => sheet.cols_seen(first, last),
     }
 }
 
 /// Whether the visible lines from a first to a last one are there, and as many from another one on.
-pub fn are_seen(sheet: &Sheet, axis: Axis, first: u32, last: u32, to: u32) -> bool
+pub fn are_seen(sheet: &Sheet, axis: Dimension, first: u32, last: u32, to: u32) -> bool
     requires { first ≤ last }
     ensures { result ≡ are_seen (marks_on (placed_in sheet.now) axis) first last to }
 {
@@ -81,7 +81,7 @@ pub fn are_seen(sheet: &Sheet, axis: Axis, first: u32, last: u32, to: u32) -> bo
 }
 
 /// How many visible lines there are from a first to a last one.
-pub fn line_count(sheet: &Sheet, axis: Axis, first: u32, last: u32) -> u32
+pub fn line_count(sheet: &Sheet, axis: Dimension, first: u32, last: u32) -> u32
     requires order { first ≤ last }
     requires seen { last < visible_count (marks_on (placed_in sheet.now) axis) }
     ensures value { result ≡ line_count first last }
@@ -97,7 +97,7 @@ pub fn line_count(sheet: &Sheet, axis: Axis, first: u32, last: u32) -> u32
 pub fn line_pairs(
     alloc: Global,
     sheet: &Sheet,
-    axis: Axis,
+    axis: Dimension,
     from: u32,
     to: u32,
     count: u32,
@@ -125,7 +125,7 @@ pub struct Shift {
 }
 
 /// The position of the visible line to which one is shifted, unless it has a `$`.
-fn line_shifted(sheet: &Sheet, axis: Axis, shift: Shift, abs: bool, seen: u32) -> Option<u32>
+fn line_shifted(sheet: &Sheet, axis: Dimension, shift: Shift, abs: bool, seen: u32) -> Option<u32>
     ensures { result ≡ line_shifted (marks_on (placed_in sheet.now) axis) shift.from shift.to abs seen }
 {
     if abs {
@@ -140,7 +140,7 @@ fn line_shifted(sheet: &Sheet, axis: Axis, shift: Shift, abs: bool, seen: u32) -
 }
 
 /// Where a reference to one line is copied, by positions.
-pub fn line_copied(sheet: &Sheet, axis: Axis, shift: Shift, abs: bool, p: u32) -> Option<u32>
+pub fn line_copied(sheet: &Sheet, axis: Dimension, shift: Shift, abs: bool, p: u32) -> Option<u32>
     ensures { result ≡ option_and_then (line_shifted (marks_on (placed_in sheet.now) axis) shift.from shift.to abs) (visible_of (marks_on (placed_in sheet.now) axis) p) }
 {
     line_shifted(sheet, axis, shift, abs, line_seen(sheet, axis, p)?)
@@ -149,7 +149,7 @@ pub fn line_copied(sheet: &Sheet, axis: Axis, shift: Shift, abs: bool, p: u32) -
 /// Where the first and the last line of a range are copied, by positions; they may come out of order.
 pub fn ends_copied(
     sheet: &Sheet,
-    axis: Axis,
+    axis: Dimension,
     shift: Shift,
     abs: (bool, bool),
     first: u32,

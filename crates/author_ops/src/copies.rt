@@ -10,7 +10,7 @@ ghost use Rattle.author_ops.specs.Copies.{are_seen, line_count};
 ghost use Rattle.author_ops.specs.Placed.{cell_shifted, range_shifted, content_shifted, put_shifted, puts_shifted, puts_by, copy_by};
 ghost use Rattle.author_ops.specs.Edits.{Denotes};
 
-use crate::axis::{Axis, Shift, are_seen, ends_copied, line_copied, line_count, line_pairs};
+use crate::axis::{Dimension, Shift, are_seen, ends_copied, line_copied, line_count, line_pairs};
 use crate::edits::light;
 use cell_addr::span_between;
 use formula_tree::{Expr, Formula};
@@ -60,8 +60,8 @@ fn is_inside(sheet: &Sheet, from: &Span, to: &Spot) -> bool
     requires cols { from.now.left ≤ from.now.right }
     ensures { result ≡ are_seen (placed_in sheet.now).rows from.now.top from.now.bottom to.now.row && are_seen (placed_in sheet.now).cols from.now.left from.now.right to.now.col }
 {
-    are_seen(sheet, Axis::Rows, from.top, from.bottom, to.row)
-        && are_seen(sheet, Axis::Cols, from.left, from.right, to.col)
+    are_seen(sheet, Dimension::Rows, from.top, from.bottom, to.row)
+        && are_seen(sheet, Dimension::Cols, from.left, from.right, to.col)
 }
 
 /// How many cells a range of the visible sheet has.
@@ -72,8 +72,8 @@ fn cell_count(sheet: &Sheet, from: &Span) -> u32
     requires seen_cols { from.now.right < visible_count (placed_in sheet.now).cols }
     ensures { result ≡ line_count from.now.top from.now.bottom * line_count from.now.left from.now.right }
 {
-    let rows = line_count(sheet, Axis::Rows, from.top, from.bottom);
-    let cols = line_count(sheet, Axis::Cols, from.left, from.right);
+    let rows = line_count(sheet, Dimension::Rows, from.top, from.bottom);
+    let cols = line_count(sheet, Dimension::Cols, from.left, from.right);
     rows * cols
 }
 
@@ -93,10 +93,10 @@ fn puts_of(alloc: Global, sheet: &Sheet, from: &Span, to: &Spot) -> Result<Seq<P
     requires seen_cols { are_seen (placed_in sheet.now).cols from.now.left from.now.right to.now.col ≡ true }
     ensures { IfOk result (λ puts. puts ≡ puts_by (placed_in sheet.now) from.now to.now) }
 {
-    let height = line_count(sheet, Axis::Rows, from.top, from.bottom);
-    let width = line_count(sheet, Axis::Cols, from.left, from.right);
-    let rows = line_pairs(alloc, sheet, Axis::Rows, from.top, to.row, height)?;
-    let cols = line_pairs(alloc, sheet, Axis::Cols, from.left, to.col, width)?;
+    let height = line_count(sheet, Dimension::Rows, from.top, from.bottom);
+    let width = line_count(sheet, Dimension::Cols, from.left, from.right);
+    let rows = line_pairs(alloc, sheet, Dimension::Rows, from.top, to.row, height)?;
+    let cols = line_pairs(alloc, sheet, Dimension::Cols, from.left, to.col, width)?;
     let copying = Copying {
         sheet,
         rows: Shift {
@@ -230,10 +230,10 @@ fn shifted_cell(copying: &Copying<'_>, spot: Spot) -> Expr
     ensures { tree_of result ≡ cell_or_lost (cell_shifted (placed_in copying.now.sheet.now) copying.now.rows copying.now.cols spot) }
 {
     let sheet = copying.sheet;
-    let Some(row) = line_copied(sheet, Axis::Rows, copying.rows, spot.abs_row, spot.row) else {
+    let Some(row) = line_copied(sheet, Dimension::Rows, copying.rows, spot.abs_row, spot.row) else {
         return Expr::Err(CalcErr::Lost);
     };
-    let Some(col) = line_copied(sheet, Axis::Cols, copying.cols, spot.abs_col, spot.col) else {
+    let Some(col) = line_copied(sheet, Dimension::Cols, copying.cols, spot.abs_col, spot.col) else {
         return Expr::Err(CalcErr::Lost);
     };
     Expr::Cell(Spot {
@@ -250,11 +250,25 @@ fn shifted_range(copying: &Copying<'_>, span: Span) -> Expr
 {
     let sheet = copying.sheet;
     let abs = (span.abs_top, span.abs_bottom);
-    let Some(rows) = ends_copied(sheet, Axis::Rows, copying.rows, abs, span.top, span.bottom) else {
+    let Some(rows) = ends_copied(
+        sheet,
+        Dimension::Rows,
+        copying.rows,
+        abs,
+        span.top,
+        span.bottom,
+    ) else {
         return Expr::Err(CalcErr::Lost);
     };
     let abs = (span.abs_left, span.abs_right);
-    let Some(cols) = ends_copied(sheet, Axis::Cols, copying.cols, abs, span.left, span.right) else {
+    let Some(cols) = ends_copied(
+        sheet,
+        Dimension::Cols,
+        copying.cols,
+        abs,
+        span.left,
+        span.right,
+    ) else {
         return Expr::Err(CalcErr::Lost);
     };
     let first = Spot {

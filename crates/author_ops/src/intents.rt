@@ -6,7 +6,7 @@ ghost use Rattle.sheet_ops.specs.Placed.{placed_size};
 ghost use Rattle.author_ops.specs.Copies.{line_count};
 ghost use Rattle.author_ops.specs.Edits.{Denotes, IsProper, sort_by};
 
-use crate::axis::{Axis, visible};
+use crate::axis::{Dimension, visible};
 use crate::copies::copy;
 use crate::edits::{clear, set};
 use crate::lines::{del_col, del_row, ins_col, ins_row};
@@ -55,7 +55,7 @@ fn sort_rows(
     ensures cause { IfErr result (λ e. e ≢ EditErr.Memory → sort_by (placed_in sheet.now).rows (placed_in sheet.now).cols rows.0 rows.1 col keys.now down ≡ Err e) }
     ensures fits { IfOk result (IntentFits (placed_size (placed_in sheet.now))) }
 {
-    if col >= visible(sheet, Axis::Cols) {
+    if col >= visible(sheet, Dimension::Cols) {
         return Err(EditErr::OutOfSheet);
     }
     sort(alloc, sheet, rows.0, rows.1, keys, down)

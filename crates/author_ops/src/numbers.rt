@@ -4,15 +4,15 @@ ghost use Rattle.std.specs.Char.{is_ascii_digit};
 ghost use Rattle.std.specs.List.{list_all};
 ghost use Rattle.std.specs.Str.Parse.{digits_value};
 ghost use Rattle.sheet_ops.specs.Numerals.{is_numeral, are_digits};
-ghost use Rattle.author_ops.specs.Numbers.{number_of, number_front, signed_number};
+ghost use Rattle.author_ops.specs.Numbers.{entered_number, number_front, signed_number};
 
 /// The number that an optional `-` and digits say, leading zeros too. Where it is outside the range of
 /// `i64`, the length of its longest front with which a number in range begins.
 pub fn read_number(text: &[u8]) -> Result<i64, u32>
     requires numeral { is_numeral text.now ≡ true }
     requires short { length text.now < 2 ^ 32 }
-    ensures number { IfOk result (λ n. number_of text.now ≡ Some n) }
-    ensures outside { IfErr result (λ front. number_of text.now ≡ None) }
+    ensures number { IfOk result (λ n. entered_number text.now ≡ Some n) }
+    ensures outside { IfErr result (λ front. entered_number text.now ≡ None) }
     ensures front { IfErr result (λ front. front ≡ number_front text.now) }
 {
     match text {
@@ -25,8 +25,8 @@ pub fn read_number(text: &[u8]) -> Result<i64, u32>
 fn behind_minus(digits: &[u8]) -> Result<i64, u32>
     requires digits { are_digits digits.now ≡ true }
     requires short { length digits.now + 1 < 2 ^ 32 }
-    ensures number { IfOk result (λ n. number_of (45 ∷ digits.now) ≡ Some n) }
-    ensures outside { IfErr result (λ front. number_of (45 ∷ digits.now) ≡ None) }
+    ensures number { IfOk result (λ n. entered_number (45 ∷ digits.now) ≡ Some n) }
+    ensures outside { IfErr result (λ front. entered_number (45 ∷ digits.now) ≡ None) }
     ensures front { IfErr result (λ front. front ≡ number_front (45 ∷ digits.now)) }
 {
     match value_up_to(digits, 1 << 63) {
@@ -39,8 +39,8 @@ fn behind_minus(digits: &[u8]) -> Result<i64, u32>
 fn plain(digits: &[u8]) -> Result<i64, u32>
     requires digits { are_digits digits.now ≡ true }
     requires short { length digits.now < 2 ^ 32 }
-    ensures number { IfOk result (λ n. number_of digits.now ≡ Some n) }
-    ensures outside { IfErr result (λ front. number_of digits.now ≡ None) }
+    ensures number { IfOk result (λ n. entered_number digits.now ≡ Some n) }
+    ensures outside { IfErr result (λ front. entered_number digits.now ≡ None) }
     ensures front { IfErr result (λ front. front ≡ number_front digits.now) }
 {
     match value_up_to(digits, (1 << 63) - 1) {

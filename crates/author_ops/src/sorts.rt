@@ -11,7 +11,7 @@ ghost use Rattle.author_ops.specs.Copies.{line_count};
 ghost use Rattle.author_ops.specs.Edits.{sort_on};
 ghost use Rattle.author_ops.specs.Orders.{empty_rank, key_order, row_at, row_order, places_sorted};
 
-use crate::axis::{Axis, place_of};
+use crate::axis::{Dimension, place_of};
 use sheet_grid::Sheet;
 use sheet_ops::{EditErr, Intent};
 use sheet_value::{Value, order, order_is_total};
@@ -63,7 +63,7 @@ fn slots_from(alloc: Global, sheet: &Sheet, first: u32, count: u32) -> Result<Ve
     let _seen = sheet.visible();
     let mut slots = Vec::new(alloc);
     for k in 0..count {
-        slots.push(place_of(sheet, Axis::Rows, first + k))?;
+        slots.push(place_of(sheet, Dimension::Rows, first + k))?;
     }
     Ok(slots)
 }

@@ -49,17 +49,17 @@ range_between a b =
       abs_right = if right then b.abs_col else a.abs_col;
     }
 
-abbrev pub span_of : Option Spot → Option Spot → Option Span
-span_of (Some a) (Some b) = Some (range_between a b)
-span_of _ _ = None
+abbrev pub span_of_corners : Option Spot → Option Spot → Option Span
+span_of_corners (Some a) (Some b) = Some (range_between a b)
+span_of_corners _ _ = None
 
 abbrev pub is_colon : ℕ → Bool
 is_colon b = nat_eq b 58
 
 -- a range: two cells parted by the first colon, or one cell, which is both corners
 abbrev pub range_at : Option ℕ → List ℕ → Option Span
-range_at None text = span_of (cell_of text) (cell_of text)
-range_at (Some colon) text = span_of (cell_of (take colon text)) (cell_of (drop (colon + 1) text))
+range_at None text = span_of_corners (cell_of text) (cell_of text)
+range_at (Some colon) text = span_of_corners (cell_of (take colon text)) (cell_of (drop (colon + 1) text))
 
 abbrev pub range_of : List ℕ → Option Span
 range_of text = range_at (position is_colon text) text

@@ -1,7 +1,7 @@
 ghost use Rattle.std.specs.Prelude.{◌≡◌, ◌≤◌, ◌<◌, IfSome, length, position, take_while};
 ghost use Rattle.std.specs.Char.{is_ascii_alphabetic};
 ghost use Rattle.std.specs.List.{prefix_len};
-ghost use Rattle.cell_addr.specs.Cells.{cell_of, range_of, range_between, has_dollar, is_colon, past_dollar, past_letters, span_of};
+ghost use Rattle.cell_addr.specs.Cells.{cell_of, range_of, range_between, has_dollar, is_colon, past_dollar, past_letters, span_of_corners};
 
 use crate::column::col_of;
 use crate::number::read_count;
@@ -54,7 +54,7 @@ fn colon_in(text: &[u8]) -> Option<usize>
 
 /// The range of two corners, where both are there.
 fn between(a: Option<Spot>, b: Option<Spot>) -> Option<Span>
-    ensures { result ≡ span_of a b }
+    ensures { result ≡ span_of_corners a b }
 {
     Some(span_between(a?, b?))
 }

@@ -17,8 +17,8 @@ use Rattle.formula_read.specs.declared.stack.Side.{Side}
 use Rattle.formula_read.specs.Nested.{Nested}
 use Rattle.formula_read.specs.Readings.{ReadAs}
 use Rattle.formula_read.specs.Places.{tokens_of}
-use Rattle.formula_read.specs.Stack.{State, start, stepped, walked, finished_at}
-use Rattle.formula_read.specs.Steps.{StepsTo, Answers}
+use Rattle.formula_read.specs.Stack.{State, start, stepped, state_after, finished_at}
+use Rattle.formula_read.specs.Steps.{IsStepOutcome, Answers}
 use Rattle.formula_read.proofs.Choices.{nothing}
 use Rattle.formula_read.proofs.Derived.{expression_walked}
 use Rattle.formula_read.proofs.Spellings.{one_cut}
@@ -26,32 +26,32 @@ use Rattle.formula_read.proofs.Formed.{formula_formed}
 use Rattle.formula_read.proofs.Nestings.{refused_step}
 
 -- where a step leads
-given_some : (p : Side) (fs : List Frame) (o : Option State) → StepsTo (Ok p) fs o → o ≡ Some (record { side = p; frames = reverse fs })
+given_some : (p : Side) (fs : List Frame) (o : Option State) → IsStepOutcome (Ok p) fs o → o ≡ Some (record { side = p; frames = reverse fs })
 given_some p fs None h = absurd h
 given_some p fs (Some s) h = ap Some h
 
 -- One more token of a walk.
 module _ (ts : List TokenValue) (i : ℕ) (t : TokenValue) (side : Side) (frames : List Frame) (rest : drop i ts ≡ t ∷ drop (i + 1) ts)
-    (so_far : finished_at (walked (Some start) ts) ≡ finished_at (walked (Some (record { side = side; frames = reverse frames })) (drop i ts))) where
-  one_more : finished_at (walked (Some start) ts) ≡ finished_at (walked (stepped side (reverse frames) t) (drop (i + 1) ts))
-  one_more = so_far ∙ ap (λ (us : List TokenValue). finished_at (walked (Some (record { side = side; frames = reverse frames })) us)) rest
+    (so_far : finished_at (state_after (Some start) ts) ≡ finished_at (state_after (Some (record { side = side; frames = reverse frames })) (drop i ts))) where
+  one_more : finished_at (state_after (Some start) ts) ≡ finished_at (state_after (stepped side (reverse frames) t) (drop (i + 1) ts))
+  one_more = so_far ∙ ap (λ (us : List TokenValue). finished_at (state_after (Some (record { side = side; frames = reverse frames })) us)) rest
 
-  pub walk_goes : (p : Side) (fs : List Frame) → StepsTo (Ok p) fs (stepped side (reverse frames) t) →
-      finished_at (walked (Some start) ts) ≡ finished_at (walked (Some (record { side = p; frames = reverse fs })) (drop (i + 1) ts))
-  walk_goes p fs h = one_more ∙ ap (λ (o : Option State). finished_at (walked o (drop (i + 1) ts))) (given_some p fs (stepped side (reverse frames) t) h)
+  pub walk_goes : (p : Side) (fs : List Frame) → IsStepOutcome (Ok p) fs (stepped side (reverse frames) t) →
+      finished_at (state_after (Some start) ts) ≡ finished_at (state_after (Some (record { side = p; frames = reverse fs })) (drop (i + 1) ts))
+  walk_goes p fs h = one_more ∙ ap (λ (o : Option State). finished_at (state_after o (drop (i + 1) ts))) (given_some p fs (stepped side (reverse frames) t) h)
 
-  pub walk_refused : (e : TreeErr) (fs : List Frame) → StepsTo (Err e) fs (stepped side (reverse frames) t) → Answers (Err e) (finished_at (walked (Some start) ts))
+  pub walk_refused : (e : TreeErr) (fs : List Frame) → IsStepOutcome (Err e) fs (stepped side (reverse frames) t) → Answers (Err e) (finished_at (state_after (Some start) ts))
   walk_refused e fs h = subst (λ (o : Option Nested). Answers (Err e) o) (sym one_more) (refused_step e fs (stepped side (reverse frames) t) (drop (i + 1) ts) h)
 
 -- The tokens of a formula's text lead to its tree and nesting.
 text_walked : (text : List ℕ) (ls : List Lexeme) (t : Tree Spot Span) (n : ℕ) → Lexes 0 text ls → Stands text t n →
-    finished_at (walked (Some start) (tokens_of ls)) ≡ Some (record { tree = t; nesting = n })
+    finished_at (state_after (Some start) (tokens_of ls)) ≡ Some (record { tree = t; nesting = n })
 text_walked text ls t n l (head, ms, m, e, d) =
-    ap (λ (ls : List Lexeme). finished_at (walked (Some start) (tokens_of ls))) (one_cut l (head ∷ ms) m) ∙ expression_walked head.token (tokens_of ms) t n d
+    ap (λ (ls : List Lexeme). finished_at (state_after (Some start) (tokens_of ls))) (one_cut l (head ∷ ms) m) ∙ expression_walked head.token (tokens_of ms) t n d
 
 module _ (text : List ℕ) (ls : List Lexeme) (l : Lexes 0 text ls) where
   abbrev answer : Option Nested
-  answer = finished_at (walked (Some start) (tokens_of ls))
+  answer = finished_at (state_after (Some start) (tokens_of ls))
 
   pub answer_deep : Answers (Err tree_err.Deep) answer → (t : Tree Spot Span) (n : ℕ) → Stands text t n → 64 < n
   answer_deep h t n stands = subst (λ (o : Option Nested). Answers (Err tree_err.Deep) o) (text_walked text ls t n l stands) h

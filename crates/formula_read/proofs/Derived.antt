@@ -16,7 +16,7 @@ use Rattle.formula_tree.specs.Grammar as grammar
 use Rattle.formula_read.specs.declared.stack.Frame.{Frame}
 use Rattle.formula_read.specs.declared.stack.Frame.TheVariants.{Sign, Left, Group, Call}
 use Rattle.formula_read.specs.Nested.{Nested, NestedList, no_arguments, with_argument}
-use Rattle.formula_read.specs.Stack.{State, start, waiting, standing, wanted, completed, reduced, operator_behind, closed, parted, stepped, walked, alone, finished_at}
+use Rattle.formula_read.specs.Stack.{State, start, waiting, standing, wanted, completed, reduced, operator_behind, closed, parted, stepped, state_after, alone, finished_at}
 use Rattle.formula_read.proofs.Choices.{same}
 use Rattle.formula_read.proofs.Syntax.{most_precedence}
 use Rattle.formula_read.proofs.NamedFunctions.{function_named-name_of}
@@ -24,10 +24,10 @@ use Rattle.formula_read.proofs.NamedFunctions.{function_named-name_of}
 abbrev nested : Tree Spot Span → ℕ → Nested
 nested t n = record { tree = t; nesting = n }
 
-walked-append : (o : Option State) (xs ys : List TokenValue) → walked o (xs ++ ys) ≡ walked (walked o xs) ys
-walked-append None xs ys = refl
-walked-append (Some s) [] ys = refl
-walked-append (Some s) (x ∷ xs) ys = walked-append (stepped s.side s.frames x) xs ys
+state_after-append : (o : Option State) (xs ys : List TokenValue) → state_after o (xs ++ ys) ≡ state_after (state_after o xs) ys
+state_after-append None xs ys = refl
+state_after-append (Some s) [] ys = refl
+state_after-append (Some s) (x ∷ xs) ys = state_after-append (stepped s.side s.frames x) xs ys
 
 -- how tightly an operand has to bind behind all that waits
 abbrev wanted_behind : List Frame → ℕ
@@ -49,36 +49,36 @@ goes p x f fs h = ap (λ (t : Bool). cond t (reduced p (completed f x) fs) (x, f
 record IsRead (p : ℕ) (fs : List Frame) (ts : List TokenValue) (x : Nested) : Type 0 where
   operand : Nested
   waits : List Frame
-  walks : walked (Some (waiting fs)) ts ≡ Some (standing operand waits)
+  walks : state_after (Some (waiting fs)) ts ≡ Some (standing operand waits)
   agrees : (q : ℕ) → q ≤ p → q ≤ 5 → reduced q operand waits ≡ reduced q x fs
 
-by_itself : (p : ℕ) (fs : List Frame) (ts : List TokenValue) (x : Nested) → walked (Some (waiting fs)) ts ≡ Some (standing x fs) → IsRead p fs ts x
+by_itself : (p : ℕ) (fs : List Frame) (ts : List TokenValue) (x : Nested) → state_after (Some (waiting fs)) ts ≡ Some (standing x fs) → IsRead p fs ts x
 by_itself p fs ts x h = record { operand = x; waits = fs; walks = h; agrees = λ q _ _. refl }
 
 -- behind tokens that were read
 behind_read : {p : ℕ} {fs : List Frame} {ts : List TokenValue} {x : Nested} → IsRead p fs ts x → (us : List TokenValue) → (y : Nested) × (gs : List Frame) ×
-    (walked (Some (waiting fs)) (ts ++ us) ≡ walked (Some (standing y gs)) us) × ((q : ℕ) → q ≤ p → q ≤ 5 → reduced q y gs ≡ reduced q x fs)
-behind_read {p} {fs} {ts} {x} r us = (r.operand, r.waits, walked-append (Some (waiting fs)) ts us ∙ ap (λ (o : Option State). walked o us) r.walks, r.agrees)
+    (state_after (Some (waiting fs)) (ts ++ us) ≡ state_after (Some (standing y gs)) us) × ((q : ℕ) → q ≤ p → q ≤ 5 → reduced q y gs ≡ reduced q x fs)
+behind_read {p} {fs} {ts} {x} r us = (r.operand, r.waits, state_after-append (Some (waiting fs)) ts us ∙ ap (λ (o : Option State). state_after o us) r.walks, r.agrees)
 
 module _ (fs : List Frame) (ts us : List TokenValue) (x : Nested) where
   operator_read : (p : ℕ) (op : BinOp) → precedence_of_operator op ≤ p → wanted_behind fs ≤ precedence_of_operator op → IsRead p fs ts x →
-      walked (Some (waiting fs)) (ts ++ sign op ∷ us) ≡ walked (Some (waiting (Left x op ∷ fs))) us
+      state_after (Some (waiting fs)) (ts ++ sign op ∷ us) ≡ state_after (Some (waiting (Left x op ∷ fs))) us
   operator_read p op tight low r =
       let (y, gs, walks, agrees) = behind_read r (sign op ∷ us) in
-      walks ∙ ap (λ (z : Nested × List Frame). walked (Some (operator_behind op z)) us)
+      walks ∙ ap (λ (z : Nested × List Frame). state_after (Some (operator_behind op z)) us)
       (agrees (precedence_of_operator op) tight (most_precedence op) ∙ stays (precedence_of_operator op) x fs low)
 
   closing_read : (f : Frame) → wanted f ≡ 1 → IsRead 1 (f ∷ fs) ts x →
-      walked (Some (waiting (f ∷ fs))) (ts ++ closing ∷ us) ≡ walked (Some (standing (completed f x) fs)) us
+      state_after (Some (waiting (f ∷ fs))) (ts ++ closing ∷ us) ≡ state_after (Some (standing (completed f x) fs)) us
   closing_read f w r =
       let (y, gs, walks, agrees) = behind_read r (closing ∷ us) in
-      walks ∙ ap (λ (z : Nested × List Frame). walked (closed z) us) (agrees 1 (omega arith) (omega arith) ∙ stays 1 x (f ∷ fs) (omega arith))
+      walks ∙ ap (λ (z : Nested × List Frame). state_after (closed z) us) (agrees 1 (omega arith) (omega arith) ∙ stays 1 x (f ∷ fs) (omega arith))
 
   semicolon_read : (fun : Fun) (args : NestedList) → IsRead 1 (Call fun args ∷ fs) ts x →
-      walked (Some (waiting (Call fun args ∷ fs))) (ts ++ semicolon ∷ us) ≡ walked (Some (waiting (Call fun (with_argument args x) ∷ fs))) us
+      state_after (Some (waiting (Call fun args ∷ fs))) (ts ++ semicolon ∷ us) ≡ state_after (Some (waiting (Call fun (with_argument args x) ∷ fs))) us
   semicolon_read fun args r =
       let (y, gs, walks, agrees) = behind_read r (semicolon ∷ us) in
-      walks ∙ ap (λ (z : Nested × List Frame). walked (parted z) us) (agrees 1 (omega arith) (omega arith) ∙ stays 1 x (Call fun args ∷ fs) (omega arith))
+      walks ∙ ap (λ (z : Nested × List Frame). state_after (parted z) us) (agrees 1 (omega arith) (omega arith) ∙ stays 1 x (Call fun args ∷ fs) (omega arith))
 
 -- arguments behind others
 abbrev listed : List (Tree Spot Span) → Trees Spot Span → Trees Spot Span
@@ -142,28 +142,28 @@ mutual
       by_itself _ fs _ _ (closing_read fs ts [] (nested t n) Group refl (derives_walked d (Group ∷ fs) (omega arith)))
   derives_walked (grammar.call {n = n} {fun = fun} {ts = ts} {args = args} f a) fs low =
       by_itself _ fs _ _
-      (ap (λ (g : Fun). walked (Some (waiting (Call g no_arguments ∷ fs))) (ts ++ closing ∷ [])) (function_named-name_of fun f) ∙ arguments_walked a fun fs)
+      (ap (λ (g : Fun). state_after (Some (waiting (Call g no_arguments ∷ fs))) (ts ++ closing ∷ [])) (function_named-name_of fun f) ∙ arguments_walked a fun fs)
 
   arguments_walked : {n : ℕ} {ts : List TokenValue} {args : Trees Spot Span} → Arguments ts args n → (fun : Fun) (fs : List Frame) →
-      walked (Some (waiting (Call fun no_arguments ∷ fs))) (ts ++ closing ∷ []) ≡ Some (standing (nested (tree.call fun args) (suc n)) fs)
+      state_after (Some (waiting (Call fun no_arguments ∷ fs))) (ts ++ closing ∷ []) ≡ Some (standing (nested (tree.call fun args) (suc n)) fs)
   arguments_walked grammar.empty fun fs = refl
   arguments_walked (grammar.some {n = n} {args = args} l) fun fs =
       listed_walked l fun no_arguments fs ∙ (λ i. Some (standing (nested (tree.call fun args) (suc (none_more n i))) fs))
 
   listed_walked : {n : ℕ} {ts : List TokenValue} {args : Trees Spot Span} → Listed ts args n → (fun : Fun) (done : NestedList) (fs : List Frame) →
-      walked (Some (waiting (Call fun done ∷ fs))) (ts ++ closing ∷ []) ≡ Some (standing (called_with fun done args n) fs)
+      state_after (Some (waiting (Call fun done ∷ fs))) (ts ++ closing ∷ []) ≡ Some (standing (called_with fun done args n) fs)
   listed_walked (grammar.last {n = n} {ts = ts} {t = t} d) fun done fs =
       closing_read fs ts [] (nested t n) (Call fun done) refl (derives_walked d (Call fun done ∷ fs) (omega arith))
       ∙ (λ i. Some (standing (nested (tree.call fun (listed-last done.trees t i)) (suc (max done.nesting n))) fs))
   listed_walked (grammar.more {m = m} {n = n} {ts = ts} {us = us} {t = t} {args = args} d l) fun done fs =
-      ap (walked (Some (waiting (Call fun done ∷ fs)))) (append_assoc ts (semicolon ∷ us) (closing ∷ []))
+      ap (state_after (Some (waiting (Call fun done ∷ fs)))) (append_assoc ts (semicolon ∷ us) (closing ∷ []))
       ∙ (semicolon_read fs ts (us ++ closing ∷ []) (nested t m) fun done (derives_walked d (Call fun done ∷ fs) (omega arith))
       ∙ (listed_walked l fun (with_argument done (nested t m)) fs
       ∙ (λ i. Some (standing (nested (tree.call fun (listed-more done.trees t args i)) (suc (more_nested done.nesting m n i))) fs))))
 
 -- an expression's tokens behind a formula's `=`
 pub expression_walked : (head : TokenValue) (ts : List TokenValue) (t : Tree Spot Span) (n : ℕ) → Derives 1 ts t n →
-    finished_at (walked (Some start) (head ∷ ts)) ≡ Some (record { tree = t; nesting = n })
+    finished_at (state_after (Some start) (head ∷ ts)) ≡ Some (record { tree = t; nesting = n })
 expression_walked head ts t n d =
     let r = derives_walked d [] (omega arith) in
     ap finished_at r.walks ∙ ap alone (r.agrees 1 (omega arith) (omega arith))

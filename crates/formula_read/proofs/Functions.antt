@@ -12,7 +12,7 @@ use Rattle.formula_tree.specs.Lexing as cut
 use Rattle.formula_tree.specs.declared.operators.BinOp.TheVariants.{Eq}
 use Rattle.formula_tree.specs.Grammar.{Derives, IsFormulaText}
 use Rattle.formula_tree.proofs.FunctionNames.{has_name, known_fun, unknown_fun, known_found, none_found}
-use Rattle.formula_read.specs.Places.{IsProper, AreProper, AreFormulaTokens, tokens_of, IsReadToEnd}
+use Rattle.formula_read.specs.Places.{IsKnownToken, AreKnownTokens, AreFormulaTokens, tokens_of, IsReadToEnd}
 use Rattle.formula_read.proofs.Syntax.{formula_read, read_is_formula}
 
 pub name_is_function : (bs : List ℕ) → is_name bs ≡ true → (f : Fun) × IsFun f × (name_of f ≡ upper_case bs)
@@ -23,11 +23,11 @@ name_is_function bs h = by_first (find (has_name (upper_case bs)) known_function
     by_first None e = (fun.Unknown (upper_case bs), unknown_fun bs h (none_found (upper_case bs) (sym e)), refl)
 
 -- tokens of a text are proper
-pub lexed_proper : {at : ℕ} {bs : List ℕ} {ls : List Lexeme} → Lexes at bs ls → AreProper (tokens_of ls)
+pub lexed_proper : {at : ℕ} {bs : List ℕ} {ls : List Lexeme} → Lexes at bs ls → AreKnownTokens (tokens_of ls)
 lexed_proper cut.end = tt
 lexed_proper (cut.next {piece = piece} {behind = behind} {t = t} n more) = (proper piece t behind n, lexed_proper more)
   where
-    proper : (piece : List ℕ) (t : TokenValue) (behind : List ℕ) → IsNext piece t behind → IsProper t
+    proper : (piece : List ℕ) (t : TokenValue) (behind : List ℕ) → IsNext piece t behind → IsKnownToken t
     proper p (token.name n) r next = let (f, is, e) = name_is_function p next.fits.0.0 in (f, is, e ∙ sym next.fits.0.1)
     proper p t r next = tt
 

@@ -13,8 +13,8 @@ use Rattle.formula_read.specs.declared.stack.Frame.TheVariants.{Sign, Left, Grou
 use Rattle.formula_read.specs.declared.stack.Side.{Side}
 use Rattle.formula_read.specs.declared.stack.Side.TheVariants.{Head, Wants, Named, Has}
 use Rattle.formula_read.specs.Nested.{Nested, Makes}
-use Rattle.formula_read.specs.Stack.{State, wanted, completed, reduced, closed, parted, ended_call, begun, call_opened, ended, stepped, walked, alone, finished, finished_at}
-use Rattle.formula_read.specs.Steps.{frame_nesting, frames_nesting, side_nesting, state_nesting, Reduces, StepsTo, Answers}
+use Rattle.formula_read.specs.Stack.{State, wanted, completed, reduced, closed, parted, ended_call, begun, call_opened, ended, stepped, state_after, alone, finished, finished_at}
+use Rattle.formula_read.specs.Steps.{frame_nesting, frames_nesting, side_nesting, state_nesting, Reduces, IsStepOutcome, Answers}
 
 joined_deeper : (f : Frame) (x : Nested) → max x.nesting (frame_nesting f) ≤ (completed f x).nesting
 joined_deeper (Sign op) x = omega arith
@@ -90,7 +90,7 @@ stepped_deeper Wants fs t = deepens_more _ (frames_nesting fs) (begun fs t) (ome
 stepped_deeper Named fs t = deepens_more _ (frames_nesting fs) (call_opened fs t) (omega arith) (opened_deeper fs t)
 stepped_deeper (Has x) fs t = ended_deeper x fs t
 
-walked_deeper : (n : ℕ) (o : Option State) (ts : List TokenValue) → Deepens n o → Deepens n (walked o ts)
+walked_deeper : (n : ℕ) (o : Option State) (ts : List TokenValue) → Deepens n o → Deepens n (state_after o ts)
 walked_deeper n None ts d = tt
 walked_deeper n (Some s) [] d = d
 walked_deeper n (Some s) (t ∷ ts) d =
@@ -115,12 +115,12 @@ finished_deeper n (Some s) d = by_side s.side d
     by_side (Has x) d = let more = settled_deeper 1 x s.frames in alone_deeper n (reduced 1 x s.frames) (omega arith)
 
 -- a refused step refuses the text
-pub refused_step : (e : TreeErr) (fs : List Frame) (o : Option State) (ts : List TokenValue) → StepsTo (Err e) fs o → Answers (Err e) (finished_at (walked o ts))
+pub refused_step : (e : TreeErr) (fs : List Frame) (o : Option State) (ts : List TokenValue) → IsStepOutcome (Err e) fs o → Answers (Err e) (finished_at (state_after o ts))
 refused_step Memory fs o ts h = tt
-refused_step Outside fs o ts h = ap (λ (o : Option State). finished_at (walked o ts)) h
-refused_step Deep fs o ts h = by_answer (finished_at (walked o ts)) (finished_deeper 65 (walked o ts) (walked_deeper 65 o ts (deep o h)))
+refused_step Outside fs o ts h = ap (λ (o : Option State). finished_at (state_after o ts)) h
+refused_step Deep fs o ts h = by_answer (finished_at (state_after o ts)) (finished_deeper 65 (state_after o ts) (walked_deeper 65 o ts (deep o h)))
   where
-    deep : (o : Option State) → StepsTo (Err Deep) fs o → Deepens 65 o
+    deep : (o : Option State) → IsStepOutcome (Err Deep) fs o → Deepens 65 o
     deep None h = tt
     deep (Some s) h = omega arith
 

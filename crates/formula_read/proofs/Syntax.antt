@@ -22,7 +22,7 @@ use Rattle.formula_read.proofs.Choices.{nothing, same}
 use Rattle.formula_read.specs.declared.brackets.Bracket.{Bracket}
 use Rattle.formula_read.specs.declared.brackets.Bracket.TheVariants.{Group, Call}
 use Rattle.formula_read.specs.Classes.{token_class}
-use Rattle.formula_read.specs.Places.{Place, head, wants, has, named, begins, operand, advance, advance_all, IsProper, AreProper, IsExpression, AreFormulaTokens, IsFormulaFront}
+use Rattle.formula_read.specs.Places.{Place, head, wants, has, named, begins, operand, advance, advance_all, IsKnownToken, AreKnownTokens, IsExpression, AreFormulaTokens, IsFormulaFront}
 
 -- from where a call's arguments begin, an expression is read as from where one is wanted
 derives_begins : {p n : ℕ} {ts : List TokenValue} {t : Tree Spot Span} → Derives p ts t n → (ds : List Bracket) (more : List TokenValue) →
@@ -288,7 +288,7 @@ module _ (ts : List TokenValue) (t : TokenValue) (next : Place) where
   leaf_goes : (ds : List Bracket) (o q : List TokenValue) → Opened ds o → Begun q → ts ≡ sign Eq ∷ (o ++ q) → IsOperand (t ∷ []) → Some (has ds) ≡ Some next → Stands next (ts ++ t ∷ [])
   leaf_goes ds o q opened begun e leaf m = stands_next m (o, q ++ t ∷ [], opened, begun (t ∷ []) leaf, behind_both o q e)
 
-operand_goes : (ts : List TokenValue) (t : TokenValue) (next : Place) (ds : List Bracket) (o q : List TokenValue) → Opened ds o → Begun q → ts ≡ sign Eq ∷ (o ++ q) → IsProper t →
+operand_goes : (ts : List TokenValue) (t : TokenValue) (next : Place) (ds : List Bracket) (o q : List TokenValue) → Opened ds o → Begun q → ts ≡ sign Eq ∷ (o ++ q) → IsKnownToken t →
     operand ds (token_class t) ≡ Some next → Stands next (ts ++ t ∷ [])
 operand_goes ts (numeral n) next ds o q opened begun e h m = leaf_goes ts (numeral n) next ds o q opened begun e (by_itself grammar.numeral) m
 operand_goes ts (text b) next ds o q opened begun e h m = leaf_goes ts (text b) next ds o q opened begun e (by_itself grammar.text) m
@@ -347,12 +347,12 @@ named_goes ts opening next ds (o, q, fun, opened, begun, f, e) m =
     )
 named_goes ts t next ds h m = nothing m
 
-first_goes : (ts : List TokenValue) (t : TokenValue) (next : Place) (ds : List Bracket) → Stands (begins ds) ts → IsProper t → operand (Call ∷ ds) (token_class t) ≡ Some next → Stands next (ts ++ t ∷ [])
+first_goes : (ts : List TokenValue) (t : TokenValue) (next : Place) (ds : List Bracket) → Stands (begins ds) ts → IsKnownToken t → operand (Call ∷ ds) (token_class t) ≡ Some next → Stands next (ts ++ t ∷ [])
 first_goes ts t next ds (o, q, fun, opened, begun, f, e) h m =
     let inner = o ++ (q ++ (name (name_of fun) ∷ opening ∷ [])) in
     operand_goes ts t next (Call ∷ ds) inner [] (o, q, fun, [], opened, begun, f, parts_none, refl) begun_none (e ∙ ap (λ (l : List TokenValue). sign Eq ∷ l) (sym (append-nil inner))) h m
 
-begins_goes : (ts : List TokenValue) (t : TokenValue) (next : Place) (ds : List Bracket) → Stands (begins ds) ts → IsProper t → advance (begins ds) t ≡ Some next → Stands next (ts ++ t ∷ [])
+begins_goes : (ts : List TokenValue) (t : TokenValue) (next : Place) (ds : List Bracket) → Stands (begins ds) ts → IsKnownToken t → advance (begins ds) t ≡ Some next → Stands next (ts ++ t ∷ [])
 begins_goes ts closing next ds (o, q, fun, opened, begun, f, e) h m =
     let n = name (name_of fun) in
     stands_next ts closing next m (
@@ -368,14 +368,14 @@ head_goes : (ts : List TokenValue) (t : TokenValue) (next : Place) → Stands he
 head_goes ts (sign Eq) next e m = stands_next ts (sign Eq) next m ([], [], refl, begun_none, (λ i. e i ++ sign Eq ∷ []))
 head_goes ts t next e m = nothing m
 
-place_goes : (p : Place) (ts : List TokenValue) (t : TokenValue) (next : Place) → Stands p ts → IsProper t → advance p t ≡ Some next → Stands next (ts ++ t ∷ [])
+place_goes : (p : Place) (ts : List TokenValue) (t : TokenValue) (next : Place) → Stands p ts → IsKnownToken t → advance p t ≡ Some next → Stands next (ts ++ t ∷ [])
 place_goes head ts t next s h m = head_goes ts t next s m
 place_goes (wants ds) ts t next (o, q, opened, begun, e) h m = operand_goes ts t next ds o q opened begun e h m
 place_goes (has ds) ts t next s h m = has_goes ts t next ds s m
 place_goes (named ds) ts t next s h m = named_goes ts t next ds s m
 place_goes (begins ds) ts t next s h m = begins_goes ts t next ds s h m
 
-place_runs : (p : Place) (ts us : List TokenValue) (last : Place) → Stands p ts → AreProper us → advance_all (Some p) us ≡ Some last → Stands last (ts ++ us)
+place_runs : (p : Place) (ts us : List TokenValue) (last : Place) → Stands p ts → AreKnownTokens us → advance_all (Some p) us ≡ Some last → Stands last (ts ++ us)
 place_runs p ts [] last s h m = subst (λ (q : Place). Stands q (ts ++ [])) (same m) (subst (λ (l : List TokenValue). Stands p l) (sym (append-nil ts)) s)
 place_runs p ts (t ∷ us) last s h m = by_move (advance p t) refl m (λ next s' m'. place_runs next (ts ++ t ∷ []) us last s' h.1 m')
   where
@@ -384,14 +384,14 @@ place_runs p ts (t ∷ us) last s h m = by_move (advance p t) refl m (λ next s'
     by_move None k m rest = nothing m
     by_move (Some next) k m rest = subst (λ (l : List TokenValue). Stands last l) (append_assoc ts (t ∷ []) us) (rest next (place_goes p ts t next s h.0 k) m)
 
-pub read_is_front : (ts : List TokenValue) → AreProper ts → advance_all (Some head) ts ≢ None → IsFormulaFront ts
+pub read_is_front : (ts : List TokenValue) → AreKnownTokens ts → advance_all (Some head) ts ≢ None → IsFormulaFront ts
 read_is_front ts h some = by_end (advance_all (Some head) ts) refl
   where
     by_end : (o : Option Place) → advance_all (Some head) ts ≡ o → IsFormulaFront ts
     by_end None m = absurd (some m)
     by_end (Some last) m = stands_front last ts (place_runs head [] ts last refl h m)
 
-pub read_is_formula : (ts : List TokenValue) → AreProper ts → advance_all (Some head) ts ≡ Some (has []) → AreFormulaTokens ts
+pub read_is_formula : (ts : List TokenValue) → AreKnownTokens ts → advance_all (Some head) ts ≡ Some (has []) → AreFormulaTokens ts
 read_is_formula ts h m =
     let (o, s, empty, whole, e) = place_runs head [] ts (has []) refl h m in
     (s, e ∙ (λ i. sign Eq ∷ (empty i ++ s)), whole)

@@ -18,14 +18,14 @@ use Rattle.formula_read.specs.declared.stack.Side.TheVariants.{Named}
 use Rattle.formula_read.specs.FunctionNames.{function_named}
 use Rattle.formula_read.specs.Nested.{NestedList, no_arguments}
 use Rattle.formula_read.specs.Stack.{leaf_of, begun}
-use Rattle.formula_read.specs.Steps.{IsToken, MakesLeaf, StepsTo}
+use Rattle.formula_read.specs.Steps.{IsToken, MakesLeaf, IsStepOutcome}
 use Rattle.formula_read.proofs.Choices.{nothing, same}
 use Rattle.formula_read.proofs.NamedFunctions.{function_of_name}
 use Rattle.formula_read.proofs.Spellings.{one_text}
 use Rattle.formula_read.proofs.Values.{spelled_range}
 
 -- the stack after a frame is put on it
-put_on : (p : Side) (old new : List Frame) (f g : Frame) → new ≡ old ++ f ∷ [] → g ≡ f → StepsTo (Ok p) new (Some (record { side = p; frames = g ∷ reverse old }))
+put_on : (p : Side) (old new : List Frame) (f g : Frame) → new ≡ old ++ f ∷ [] → g ≡ f → IsStepOutcome (Ok p) new (Some (record { side = p; frames = g ∷ reverse old }))
 put_on p old new f g e same i = record { side = p; frames = frames i }
   where
     frames : g ∷ reverse old ≡ reverse new
@@ -37,9 +37,9 @@ name_token t bytes h = let e = h.0 in absurd (cc)
 
 -- a function's name
 pub name_begun : (t : TokenValue) (bytes : List ℕ) (fun : Fun) (args : NestedList) (old new : List Frame) → IsToken t kind.Name bytes → IsFun fun → name_of fun ≡ upper_case bytes → args ≡ no_arguments →
-    new ≡ old ++ Call fun args ∷ [] → StepsTo (Ok Named) new (begun (reverse old) t)
+    new ≡ old ++ Call fun args ∷ [] → IsStepOutcome (Ok Named) new (begun (reverse old) t)
 name_begun t bytes fun args old new h f named none e =
-    subst (λ (t : TokenValue). StepsTo (Ok Named) new (begun (reverse old) t)) (sym (name_token t bytes h).1)
+    subst (λ (t : TokenValue). IsStepOutcome (Ok Named) new (begun (reverse old) t)) (sym (name_token t bytes h).1)
     (put_on Named old new (Call fun args) (Call (function_named (upper_case bytes)) no_arguments) e (λ i. Call (sym (function_of_name fun (upper_case bytes) f named) i) (sym none i)))
 
 -- what stands by itself, by its kind and its bytes

@@ -66,13 +66,13 @@ advance_all (Some p) [] = Some p
 advance_all (Some p) (t ∷ ts) = advance_all (advance p t) ts
 
 -- a name is a function's
-abbrev pub IsProper : TokenValue → Type 0
-IsProper (name n) = (fun : Fun) × IsFun fun × (name_of fun ≡ n)
-IsProper t = Unit {0}
+abbrev pub IsKnownToken : TokenValue → Type 0
+IsKnownToken (name n) = (fun : Fun) × IsFun fun × (name_of fun ≡ n)
+IsKnownToken t = Unit {0}
 
-abbrev pub AreProper : List TokenValue → Type 0
-AreProper [] = Unit {0}
-AreProper (t ∷ ts) = IsProper t × AreProper ts
+abbrev pub AreKnownTokens : List TokenValue → Type 0
+AreKnownTokens [] = Unit {0}
+AreKnownTokens (t ∷ ts) = IsKnownToken t × AreKnownTokens ts
 
 -- the tokens of a formula: the `=`, and those of an expression
 abbrev pub IsExpression : List TokenValue → Type 0

@@ -113,10 +113,10 @@ stepped Wants fs t = begun fs t
 stepped Named fs t = call_opened fs t
 stepped (Has x) fs t = ended x fs t
 
-abbrev pub walked : Option State → List TokenValue → Option State
-walked None ts = None
-walked (Some s) [] = Some s
-walked (Some s) (t ∷ ts) = walked (stepped s.side s.frames t) ts
+abbrev pub state_after : Option State → List TokenValue → Option State
+state_after None ts = None
+state_after (Some s) [] = Some s
+state_after (Some s) (t ∷ ts) = state_after (stepped s.side s.frames t) ts
 
 -- the operand at the end, where nothing waits
 abbrev pub alone : Nested × List Frame → Option Nested

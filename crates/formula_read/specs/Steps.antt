@@ -69,13 +69,13 @@ Reduces (Err Memory) gs s = Unit {0}
 Reduces (Err Outside) gs s = ⊥
 
 -- where the reader stands, and what waits, the innermost last
-abbrev pub StepsTo : Result Side TreeErr → List Frame → Option State → Type 0
-StepsTo (Ok p) fs (Some s) = s ≡ record { side = p; frames = reverse fs }
-StepsTo (Ok p) fs None = ⊥
-StepsTo (Err Deep) fs (Some s) = 64 < state_nesting s
-StepsTo (Err Deep) fs None = Unit {0}
-StepsTo (Err Memory) fs o = Unit {0}
-StepsTo (Err Outside) fs o = o ≡ None
+abbrev pub IsStepOutcome : Result Side TreeErr → List Frame → Option State → Type 0
+IsStepOutcome (Ok p) fs (Some s) = s ≡ record { side = p; frames = reverse fs }
+IsStepOutcome (Ok p) fs None = ⊥
+IsStepOutcome (Err Deep) fs (Some s) = 64 < state_nesting s
+IsStepOutcome (Err Deep) fs None = Unit {0}
+IsStepOutcome (Err Memory) fs o = Unit {0}
+IsStepOutcome (Err Outside) fs o = o ≡ None
 
 -- the operand of a whole text
 abbrev pub Answers : Result Nested TreeErr → Option Nested → Type 0

@@ -10,16 +10,16 @@ ghost use Rattle.formula_read.specs.Read.{token_kind};
 ghost use Rattle.formula_read.specs.Behind.{goes_on};
 ghost use Rattle.formula_read.specs.Readings.{Reading, IsReading};
 ghost use Rattle.formula_read.specs.declared.partial.Partial.TheVariants.{Fresh};
-ghost use Rattle.formula_read.specs.Places.{head, has, advance_all, tokens_of, AreProper, AreFormulaTokens, IsFormulaFront, IsReadToEnd};
+ghost use Rattle.formula_read.specs.Places.{head, has, advance_all, tokens_of, AreKnownTokens, AreFormulaTokens, IsFormulaFront, IsReadToEnd};
 
 /// Token by token: the reader stands somewhere exactly after the fronts of formulas, and has an
 /// operand outside all brackets exactly after formulas. Each name of a text is that of a function, so a
 /// text is a formula's exactly where it is cut into tokens that lead there.
 pub fn token_fronts()
-    ensures fronts { (ts : List TokenValue) → AreProper ts → (IsFormulaFront ts ↔ (advance_all (Some head) ts ≢ None)) }
-    ensures names { (bs : List ℕ) (ls : List Lexeme) → Lexes 0 bs ls → AreProper (tokens_of ls) }
+    ensures fronts { (ts : List TokenValue) → AreKnownTokens ts → (IsFormulaFront ts ↔ (advance_all (Some head) ts ≢ None)) }
+    ensures names { (bs : List ℕ) (ls : List Lexeme) → Lexes 0 bs ls → AreKnownTokens (tokens_of ls) }
     ensures texts { (bs : List ℕ) → (IsFormulaText bs ↔ IsReadToEnd bs) }
-    ensures formulas { (ts : List TokenValue) → AreProper ts → (AreFormulaTokens ts ↔ (advance_all (Some head) ts ≡ Some (has []))) }
+    ensures formulas { (ts : List TokenValue) → AreKnownTokens ts → (AreFormulaTokens ts ↔ (advance_all (Some head) ts ≡ Some (has []))) }
 {}
 
 /// Byte by byte: the reader, with the front of a token as a state of its own, stands somewhere exactly

@@ -1,7 +1,7 @@
 ghost use Rattle.std.specs.Prelude.{◌≡◌, ◌<◌, [], ◌∷◌, ◌++◌, reverse, IfSome, IfNone};
 ghost use Rattle.formula_read.specs.Nested.{Makes};
 ghost use Rattle.formula_read.specs.Stack.{wanted, completed, reduced, waiting, operator_behind, closed, parted, ended_call, finished};
-ghost use Rattle.formula_read.specs.Steps.{Reduces, StepsTo, Answers, IsReduced};
+ghost use Rattle.formula_read.specs.Steps.{Reduces, IsStepOutcome, Answers, IsReduced};
 ghost use Rattle.formula_tree.specs.Precedence.{precedence_of_operator};
 
 use crate::operand::{Operand, OperandList};
@@ -91,7 +91,7 @@ fn reduce(
 
 /// A prefix sign or an open bracket where an operand is wanted.
 pub fn wait(frames: &mut Seq<Frame>, frame: Frame) -> Result<Side, TreeErr>
-    ensures { StepsTo result frames.new (Some (waiting (frame ∷ reverse frames.old))) }
+    ensures { IsStepOutcome result frames.new (Some (waiting (frame ∷ reverse frames.old))) }
 {
     frames.push(frame)?;
     Ok(Side::Wants)
@@ -105,7 +105,7 @@ pub fn operate(
     op: BinOp,
 ) -> Result<Side, TreeErr>
     ensures { let before = reduced (precedence_of_operator op) operand (reverse frames.old) in
-        StepsTo result frames.new (Some (operator_behind op before)) }
+        IsStepOutcome result frames.new (Some (operator_behind op before)) }
 {
     let left = reduce(alloc, frames, operand, op.precedence())?;
     frames.push(Frame::Left(left, op))?;
@@ -114,7 +114,7 @@ pub fn operate(
 
 /// A closing bracket behind an operand.
 pub fn close(alloc: Global, frames: &mut Seq<Frame>, operand: Operand) -> Result<Side, TreeErr>
-    ensures { StepsTo result frames.new (closed (reduced 1 operand (reverse frames.old))) }
+    ensures { IsStepOutcome result frames.new (closed (reduced 1 operand (reverse frames.old))) }
 {
     let operand = reduce(alloc, frames, operand, 1)?;
     match frames.pop() {
@@ -125,7 +125,7 @@ pub fn close(alloc: Global, frames: &mut Seq<Frame>, operand: Operand) -> Result
 
 /// A semicolon behind an operand.
 pub fn part(alloc: Global, frames: &mut Seq<Frame>, operand: Operand) -> Result<Side, TreeErr>
-    ensures { StepsTo result frames.new (parted (reduced 1 operand (reverse frames.old))) }
+    ensures { IsStepOutcome result frames.new (parted (reduced 1 operand (reverse frames.old))) }
 {
     let operand = reduce(alloc, frames, operand, 1)?;
     match frames.pop() {
@@ -140,7 +140,7 @@ pub fn part(alloc: Global, frames: &mut Seq<Frame>, operand: Operand) -> Result<
 
 /// A closing bracket where an operand is wanted.
 pub fn end_call(frames: &mut Seq<Frame>) -> Result<Side, TreeErr>
-    ensures { StepsTo result frames.new (ended_call (reverse frames.old)) }
+    ensures { IsStepOutcome result frames.new (ended_call (reverse frames.old)) }
 {
     match frames.pop() {
         Some(Frame::Call(fun, args)) => Ok(Side::Has(args.called(fun)?)),

@@ -1,7 +1,7 @@
 ghost use Rattle.std.specs.Prelude.{reverse};
 ghost use Rattle.formula_tree.specs.Tokens.{TokenValue};
 ghost use Rattle.formula_read.specs.Stack.{begun, call_opened, ended, stepped};
-ghost use Rattle.formula_read.specs.Steps.{IsToken, IsSpelled, StepsTo};
+ghost use Rattle.formula_read.specs.Steps.{IsToken, IsSpelled, IsStepOutcome};
 
 use crate::kinds::TokenKind;
 use crate::leaves::{leaf, operator};
@@ -22,7 +22,7 @@ pub fn step(
 ) -> Result<Side, TreeErr>
     requires { IsSpelled kind bytes.now }
     ensures { (t : TokenValue) → IsToken t kind bytes.now →
-        StepsTo result frames.new (stepped side (reverse frames.old) t) }
+        IsStepOutcome result frames.new (stepped side (reverse frames.old) t) }
 {
     match side {
         Side::Head => Ok(Side::Wants),
@@ -42,7 +42,7 @@ fn begin(
 ) -> Result<Side, TreeErr>
     requires { IsSpelled kind bytes.now }
     ensures { (t : TokenValue) → IsToken t kind bytes.now →
-        StepsTo result frames.new (begun (reverse frames.old) t) }
+        IsStepOutcome result frames.new (begun (reverse frames.old) t) }
 {
     match kind {
         TokenKind::Name => {
@@ -75,7 +75,7 @@ fn end(
 ) -> Result<Side, TreeErr>
     requires { IsSpelled kind bytes.now }
     ensures { (t : TokenValue) → IsToken t kind bytes.now →
-        StepsTo result frames.new (ended operand (reverse frames.old) t) }
+        IsStepOutcome result frames.new (ended operand (reverse frames.old) t) }
 {
     match kind {
         TokenKind::Sign => operate(alloc, frames, operand, operator(bytes)),

@@ -6,7 +6,7 @@ ghost use Rattle.formula_tree.specs.Lexing.{Lexeme};
 ghost use Rattle.formula_tree.specs.Grammar.{Stands, IsFormulaText};
 ghost use Rattle.formula_read.specs.Readings.{ReadAs};
 ghost use Rattle.formula_read.specs.Places.{tokens_of};
-ghost use Rattle.formula_read.specs.Stack.{start, walked, finished_at};
+ghost use Rattle.formula_read.specs.Stack.{start, state_after, finished_at};
 ghost use Rattle.formula_read.specs.Steps.{AreTokens, Answers};
 
 use crate::kinds::{ParseErr, Token};
@@ -39,7 +39,7 @@ pub fn tree(alloc: Global, text: &[u8]) -> Result<Formula, ParseErr>
 fn operand_of(alloc: Global, text: &[u8], tokens: &[Token]) -> Result<Operand, TreeErr>
     requires { (ls : List Lexeme) × AreTokens ls text.now tokens.now }
     ensures { (ls : List Lexeme) → AreTokens ls text.now tokens.now →
-        Answers result (finished_at (walked (Some start) (tokens_of ls))) }
+        Answers result (finished_at (state_after (Some start) (tokens_of ls))) }
 {
     let mut frames = Seq::new(alloc);
     let mut side = Side::Head;

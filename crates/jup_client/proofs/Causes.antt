@@ -11,7 +11,7 @@ use Rattle.jup_client.specs.declared.Down.{Down}
 use Rattle.jup_client.specs.declared.Down.TheVariants as message
 use Rattle.jup_client.specs.declared.client.TakeErr.{TakeErr}
 use Rattle.jup_client.specs.declared.client.TakeErr.TheVariants as fault
-use Rattle.jup_client.specs.Clients.{IsSmall, IsBig, IsClient, first_past, base_past, down_misfit, IsRefused, IsAdmitted, IsCause}
+use Rattle.jup_client.specs.Clients.{IsSmall, IsBig, IsClient, first_past, base_past, down_misfit, RefusesMessage, AcceptsMessage, IsCause}
 
 -- ---- what differs
 abbrev IsOther : Down → Type 0
@@ -56,17 +56,17 @@ module _ (c : ClientState) (op : Intent) (ops : List Intent) (is : c.pending ≡
   own_past_is : size_past c.base (effect_of_intent op) ≡ first_past c.base c.pending
   own_past_is = sym (ap (first_past c.base) is)
 
-  pub admitted_own : IsSmall (size_past c.base (effect_of_intent op)) → IsAdmitted c message.Own
+  pub admitted_own : IsSmall (size_past c.base (effect_of_intent op)) → AcceptsMessage c message.Own
   admitted_own small fault.NotMine r = not_empty op ops (sym is ∙ r.1)
   admitted_own small (fault.BadPlace k) r = not_found k (sym r)
   admitted_own small fault.TooBig r = not_big (first_past c.base c.pending) (subst IsSmall own_past_is small) r.1
   admitted_own small fault.Memory r = r
 
-  pub refused_own : IsBig (size_past c.base (effect_of_intent op)) → IsRefused c message.Own fault.TooBig
+  pub refused_own : IsBig (size_past c.base (effect_of_intent op)) → RefusesMessage c message.Own fault.TooBig
   refused_own big = (refl, subst IsBig own_past_is big)
 
 -- ---- another's effect
-pub admitted_other : (c : ClientState) (e : Effect) → down_misfit c (message.Other e) ≡ None → IsSmall (size_past c.base e) → IsAdmitted c (message.Other e)
+pub admitted_other : (c : ClientState) (e : Effect) → down_misfit c (message.Other e) ≡ None → IsSmall (size_past c.base e) → AcceptsMessage c (message.Other e)
 admitted_other c e none small fault.NotMine r = not_own e r.0
 admitted_other c e none small (fault.BadPlace k) r = not_found k (sym r ∙ none)
 admitted_other c e none small fault.TooBig r = not_big (size_past c.base e) small r.1
@@ -80,7 +80,7 @@ module _ (c : ClientState) (ok : IsClient c) (d : Down) where
   none_small : d ≡ message.Own → c.pending ≡ [] → IsBig (base_past c d) → ⊥
   none_small is none big = not_big c.base ok.small (subst IsBig (ap (base_past c) is ∙ ap (first_past c.base) none) big)
 
-  pub same_cause : (x y : TakeErr) → IsRefused c d x → IsRefused c d y → x ≡ y
+  pub same_cause : (x y : TakeErr) → RefusesMessage c d x → RefusesMessage c d y → x ≡ y
   same_cause fault.NotMine fault.NotMine r s = refl
   same_cause fault.NotMine (fault.BadPlace k) r s = absurd (not_found k (sym s ∙ own_fits r.0))
   same_cause fault.NotMine fault.TooBig r s = absurd (none_small r.0 r.1 s.1)
@@ -96,13 +96,13 @@ module _ (c : ClientState) (ok : IsClient c) (d : Down) where
   same_cause fault.Memory y r s = absurd r
 
   -- an answer that comes for a cause comes exactly for it
-  pub exact : {A : Type 0} (r : Result A TakeErr) → MatchResult r (λ _. IsAdmitted c d) (IsCause c d) → (x : TakeErr) → (x ≡ fault.Memory → ⊥) → ((r ≡ Err x) ↔ IsRefused c d x)
+  pub exact : {A : Type 0} (r : Result A TakeErr) → MatchResult r (λ _. AcceptsMessage c d) (IsCause c d) → (x : TakeErr) → (x ≡ fault.Memory → ⊥) → ((r ≡ Err x) ↔ RefusesMessage c d x)
   exact {A} (Ok a) free x apart = ((λ h. absurd (subst IsRefusal (sym h) tt)), λ s. absurd (free x s))
-  exact {A} (Err y) (inl r) x apart = ((λ h. subst (IsRefused c d) (ap (refusal_or y) h) r), λ s. ap (λ (z : TakeErr). Err z) (same_cause y x r s))
+  exact {A} (Err y) (inl r) x apart = ((λ h. subst (RefusesMessage c d) (ap (refusal_or y) h) r), λ s. ap (λ (z : TakeErr). Err z) (same_cause y x r s))
   exact {A} (Err y) (inr (is, free)) x apart = ((λ h. absurd (apart (sym (ap (refusal_or y) h) ∙ is))), λ s. absurd (free x s))
 
 -- where no cause holds there is want of memory alone
-pub memory_alone : {A : Type 0} (c : ClientState) (d : Down) (r : Result A TakeErr) → MatchResult r (λ _. IsAdmitted c d) (IsCause c d) → IsAdmitted c d → IfErr r (λ x. x ≡ fault.Memory)
+pub memory_alone : {A : Type 0} (c : ClientState) (d : Down) (r : Result A TakeErr) → MatchResult r (λ _. AcceptsMessage c d) (IsCause c d) → AcceptsMessage c d → IfErr r (λ x. x ≡ fault.Memory)
 memory_alone c d (Ok a) came free = tt
 memory_alone c d (Err y) (inl r) free = absurd (free y r)
 memory_alone c d (Err y) (inr (is, rest)) free = is

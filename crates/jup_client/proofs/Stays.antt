@@ -36,7 +36,7 @@ use Rattle.sheet_ops.proofs.Acknowledged.{view_stays, pending_stays, seen_same, 
 use Rattle.sheet_ops.proofs.Taken.{EachSound, taken_other, edited}
 use Rattle.jup_client.specs.declared.Down.{Down}
 use Rattle.jup_client.specs.declared.Down.TheVariants as message
-use Rattle.jup_client.specs.Clients.{IsSmall, IsClient, down_at, entry_of, one_more, down_misfit, base_past, IsAdmitted, IsTaken}
+use Rattle.jup_client.specs.Clients.{IsSmall, IsClient, down_at, own_entry, one_more, down_misfit, base_past, AcceptsMessage, IsTaken}
 use Rattle.jup_client.proofs.Causes.{admitted_own, admitted_other}
 use Rattle.jup_client.proofs.OnePassed.{fits_more, sized_more}
 
@@ -64,12 +64,12 @@ module _ (c : ClientState) (sites : ℕ) (H G : List Entry) (pos : 0 < c.site) (
       (λ n low. fresh.new (operation_id c.site n) (next_unknown (take c.taken H) c.site (reverse G) pos few n (omega arith)))
 
   pub edit_stays : IsPrefixOf (own_entries c.site H) G → (op : Intent) → IntentFits (placed_size c.sheet) op → (P : PlacedSheet) → StepsTo c.sheet (effect_of_intent op) P →
-      ClientRepresents (record c { issued = c.issued + 1; sheet = P; pending = c.pending ++ op ∷ [] }) H (G ++ entry_of c op ∷ [])
+      ClientRepresents (record c { issued = c.issued + 1; sheet = P; pending = c.pending ++ op ∷ [] }) H (G ++ own_entry c op ∷ [])
   edit_stays front op fits P steps =
       let fit : IntentFits (size_of here) op = subst (λ (z : Size). IntentFits z op) (ap placed_size r.sheet ∙ size_placed here) fits in
       let many : length (own_ids op) ≡ operations_in (effect_of_intent op) = length-operation_ids c.site (suc (operations (reverse G))) (operations_of op) ∙ sym (as_many_effects op) in
-      subst (λ (n : ℕ). ClientRepresents (record c { issued = c.issued + n; sheet = P; pending = c.pending ++ op ∷ [] }) H (G ++ entry_of c op ∷ [])) (one_of op)
-      (subst (λ (Q : PlacedSheet). ClientRepresents (record c { issued = c.issued + operations_of op; sheet = Q; pending = c.pending ++ op ∷ [] }) H (G ++ entry_of c op ∷ []))
+      subst (λ (n : ℕ). ClientRepresents (record c { issued = c.issued + n; sheet = P; pending = c.pending ++ op ∷ [] }) H (G ++ own_entry c op ∷ [])) (one_of op)
+      (subst (λ (Q : PlacedSheet). ClientRepresents (record c { issued = c.issued + operations_of op; sheet = Q; pending = c.pending ++ op ∷ [] }) H (G ++ own_entry c op ∷ []))
       (steps here (own_ids op) fresh.formed (each_new_for here (own_ids op) fresh.formed (own_new op) (effect_of_intent op) many) (sym r.sheet)) (edited c H G op r front fresh.formed fit))
 
   -- ---- another's entry
@@ -287,12 +287,12 @@ split_first (y ∷ xs) x h is = ap (λ (z : Intent). z ∷ xs) (sym is)
 -- ---- the same at the fields from which a state was opened
 pub edit_at : (c0 c : ClientState) → c0 ≡ c → IsClient c0 → (sites : ℕ) (H G : List Entry) → IsValidHistory c.size sites H → ClientRepresents c H G → IsPrefixOf (own_entries c.site H) G → (op kept : Intent) → IntentFits (placed_size c.sheet) op →
     (P : PlacedSheet) → StepsTo c0.sheet (effect_of_intent op) P → (pending : List Intent) → pending ≡ c0.pending ++ kept ∷ [] → kept ≡ op →
-    ClientRepresents (record c0 { issued = c0.issued + 1; sheet = P; pending = pending }) H (G ++ entry_of c op ∷ [])
+    ClientRepresents (record c0 { issued = c0.issued + 1; sheet = P; pending = pending }) H (G ++ own_entry c op ∷ [])
 edit_at c0 c is ok sites H G valid r front op kept fits P steps pending pushed same =
     let back = sym is in
     let now : c0.pending ++ op ∷ [] ≡ pending = sym (pushed ∙ ap (λ (d : Intent). c0.pending ++ d ∷ []) same) in
-    subst (λ (d : ClientState). ClientRepresents (record c0 { issued = c0.issued + 1; sheet = P; pending = pending }) H (G ++ entry_of d op ∷ [])) is
-    (subst (λ (ps : List Intent). ClientRepresents (record c0 { issued = c0.issued + 1; sheet = P; pending = ps }) H (G ++ entry_of c0 op ∷ [])) now
+    subst (λ (d : ClientState). ClientRepresents (record c0 { issued = c0.issued + 1; sheet = P; pending = pending }) H (G ++ own_entry d op ∷ [])) is
+    (subst (λ (ps : List Intent). ClientRepresents (record c0 { issued = c0.issued + 1; sheet = P; pending = ps }) H (G ++ own_entry c0 op ∷ [])) now
     (edit_stays c0 sites H G ok.site (subst (λ (d : ClientState). IsValidHistory d.size sites H) back valid) (subst (λ (d : ClientState). ClientRepresents d H G) back r)
     (subst (λ (d : ClientState). IsPrefixOf (own_entries d.site H) G) back front) op (subst (λ (d : ClientState). IntentFits (placed_size d.sheet) op) back fits) P steps))
 
@@ -350,7 +350,7 @@ module _ (c : ClientState) (ok : IsClient c) (sites : ℕ) (H G : List Entry) (f
   there = published_leads c.size sites H valid c.taken more
 
   -- what the server sends is taken
-  pub sent_admitted : (d : Down) → d ≡ down_at c.size H c.site c.taken → IsAdmitted c d
+  pub sent_admitted : (d : Down) → d ≡ down_at c.size H c.site c.taken → AcceptsMessage c d
   sent_admitted message.Own sent =
       let own = facts (own_message c.size H c.site c.taken sent) in
       admitted_own c own.0 (pending_of c.size H c.site (suc c.taken) (reverse G)) (r.pending ∙ own.2)

@@ -39,8 +39,8 @@ abbrev pub down_at : Size → List Entry → ℕ → ℕ → Down
 down_at size H site k = if is_own H site k then message.Own else message.Other (effect_at size H k)
 
 -- the entry that an own operation becomes
-abbrev pub entry_of : ClientState → Intent → Entry
-entry_of c op = record { site = record { 0 = c.site }; seen = c.taken; intent = op }
+abbrev pub own_entry : ClientState → Intent → Entry
+own_entry c op = record { site = record { 0 = c.site }; seen = c.taken; intent = op }
 
 -- the size that the first of some operations leaves
 abbrev pub first_past : Size → List Intent → Size
@@ -58,18 +58,18 @@ down_misfit c message.Own = None
 down_misfit c (message.Other e) = misfit (effect_tests c.base e)
 
 -- Why a client refuses a message.
-abbrev pub IsRefused : ClientState → Down → TakeErr → Type 0
-IsRefused c d fault.NotMine = (d ≡ message.Own) × (c.pending ≡ [])
-IsRefused c d (fault.BadPlace k) = down_misfit c d ≡ Some k
-IsRefused c d fault.TooBig = (down_misfit c d ≡ None) × IsBig (base_past c d)
-IsRefused c d fault.Memory = ⊥
+abbrev pub RefusesMessage : ClientState → Down → TakeErr → Type 0
+RefusesMessage c d fault.NotMine = (d ≡ message.Own) × (c.pending ≡ [])
+RefusesMessage c d (fault.BadPlace k) = down_misfit c d ≡ Some k
+RefusesMessage c d fault.TooBig = (down_misfit c d ≡ None) × IsBig (base_past c d)
+RefusesMessage c d fault.Memory = ⊥
 
 -- no cause holds; and why an answer other than Ok came: for a cause, or for want of memory where none holds
-abbrev pub IsAdmitted : ClientState → Down → Type 0
-IsAdmitted c d = (x : TakeErr) → IsRefused c d x → ⊥
+abbrev pub AcceptsMessage : ClientState → Down → Type 0
+AcceptsMessage c d = (x : TakeErr) → RefusesMessage c d x → ⊥
 
 abbrev pub IsCause : ClientState → Down → TakeErr → Type 0
-IsCause c d x = IsRefused c d x ⊎ ((x ≡ fault.Memory) × IsAdmitted c d)
+IsCause c d x = RefusesMessage c d x ⊎ ((x ≡ fault.Memory) × AcceptsMessage c d)
 
 -- so many entries and one more; the last number of a `u32` stands for all above it
 abbrev pub one_more : ℕ → ℕ

@@ -13,7 +13,7 @@ ghost use Rattle.sheet_grid.specs.Values.{placed_in};
 ghost use Rattle.jup_client.specs.declared.Down.TheVariants as message;
 ghost use Rattle.jup_client.specs.declared.client.TakeErr.{TakeErr};
 ghost use Rattle.jup_client.specs.declared.client.TakeErr.TheVariants as fault;
-ghost use Rattle.jup_client.specs.Clients.{IsClient, IsSmall, IsBig, down_at, down_misfit, entry_of, IsTaken, IsRefused, IsAdmitted, IsCause};
+ghost use Rattle.jup_client.specs.Clients.{IsClient, IsSmall, IsBig, down_at, down_misfit, own_entry, IsTaken, RefusesMessage, AcceptsMessage, IsCause};
 
 use crate::Down;
 use crate::passing::{Passed, pass};
@@ -164,7 +164,7 @@ impl Client {
         ensures message { IfOk result (λ up. up ≡ record { seen = self.old.taken; intent = intent }) }
         ensures done { OnOk result (self.new ≡ record self.old { issued = self.old.issued + 1; sheet = effect_on self.old.sheet (effect_of_intent intent); pending = self.old.pending ++ intent ∷ [] }) }
         ensures represents { (sites : ℕ) (H G : List Entry) → IsValidHistory self.old.size sites H → ClientRepresents self.old H G → IsPrefixOf (own_entries self.old.site H) G →
-            OnOk result (ClientRepresents self.new H (G ++ entry_of self.old intent ∷ [])) }
+            OnOk result (ClientRepresents self.new H (G ++ own_entry self.old intent ∷ [])) }
         ensures err { OnErr result (self.new ≡ self.old) }
     {
         let seen = self.taken;
@@ -179,7 +179,7 @@ impl Client {
         ensures causes { IfErr result (λ x. (x ≡ EditErr.Spent) ⊎ (x ≡ EditErr.Memory)) }
         ensures done { OnOk result (self.new ≡ record self.old { issued = self.old.issued + 1; sheet = effect_on self.old.sheet (effect_of_intent intent.now); pending = self.old.pending ++ intent.now ∷ [] }) }
         ensures represents { (sites : ℕ) (H G : List Entry) → IsValidHistory self.old.size sites H → ClientRepresents self.old H G → IsPrefixOf (own_entries self.old.site H) G →
-            OnOk result (ClientRepresents self.new H (G ++ entry_of self.old intent.now ∷ [])) }
+            OnOk result (ClientRepresents self.new H (G ++ own_entry self.old intent.now ∷ [])) }
         ensures err { OnErr result (self.new ≡ self.old) }
     {
         if self.issued >= MOST_OPERATIONS {
@@ -204,7 +204,7 @@ impl Client {
     /// An entry of its own is in the history.
     fn take_own(&mut self) -> Result<(), TakeErr>
         ensures stood { IsClient self.old }
-        ensures cause { MatchResult result (λ _. IsAdmitted self.old message.Own) (IsCause self.old message.Own) }
+        ensures cause { MatchResult result (λ _. AcceptsMessage self.old message.Own) (IsCause self.old message.Own) }
         ensures done { OnOk result (IsTaken self.old message.Own self.new) }
         ensures err { OnErr result (self.new ≡ self.old) }
     {
@@ -223,8 +223,8 @@ impl Client {
 
     /// The base size past another's effect, where the effect may be taken.
     fn admitted(&self, effect: &Effect) -> Result<Size, TakeErr>
-        ensures cause { MatchResult result (λ base. IsAdmitted self.now (message.Other effect.now) × EffectFits self.now.base effect.now × IsSmall base × (base ≡ size_past self.now.base effect.now))
-            (IsRefused self.now (message.Other effect.now)) }
+        ensures cause { MatchResult result (λ base. AcceptsMessage self.now (message.Other effect.now) × EffectFits self.now.base effect.now × IsSmall base × (base ≡ size_past self.now.base effect.now))
+            (RefusesMessage self.now (message.Other effect.now)) }
     {
         if let Some(k) = fits_effect(effect, self.base) {
             return Err(TakeErr::BadPlace(k));
@@ -239,7 +239,7 @@ impl Client {
     /// What another's entry does is done.
     fn take_other(&mut self, effect: &Effect) -> Result<(), TakeErr>
         ensures stood { IsClient self.old }
-        ensures cause { MatchResult result (λ _. IsAdmitted self.old (message.Other effect.now)) (IsCause self.old (message.Other effect.now)) }
+        ensures cause { MatchResult result (λ _. AcceptsMessage self.old (message.Other effect.now)) (IsCause self.old (message.Other effect.now)) }
         ensures done { OnOk result ((taken : IsTaken self.old (message.Other effect.now) self.new) × StepsTo self.old.sheet taken.0 self.new.sheet) }
         ensures err { OnErr result (self.new ≡ self.old) }
     {
@@ -260,7 +260,7 @@ impl Client {
     /// `TooBig` exactly where the base size afterwards would have more than 9,000 rows or 8,064 columns;
     /// none of them comes to the client of a server's site.
     pub fn take(&mut self, down: &Down) -> Result<(), TakeErr>
-        ensures cause { (x : TakeErr) → (x ≡ fault.Memory → ⊥) → ((result ≡ Err x) ↔ IsRefused self.old down.now x) }
+        ensures cause { (x : TakeErr) → (x ≡ fault.Memory → ⊥) → ((result ≡ Err x) ↔ RefusesMessage self.old down.now x) }
         ensures done { OnOk result (IsTaken self.old down.now self.new) }
         ensures represents { (sites : ℕ) (H G : List Entry) → sites ≤ 8 → IsValidHistory self.old.size sites H → ClientRepresents self.old H G → self.old.taken < length H →
             IsPrefixOf (own_entries self.old.site H) G → down.now ≡ down_at self.old.size H self.old.site self.old.taken → MatchResult result (λ _. ClientRepresents self.new H G) (λ x. x ≡ fault.Memory) }

@@ -4,5 +4,6 @@ pub mod Images
 pub mod Indexes
 pub mod Permuting
 pub mod Positions
+pub mod Settling
 pub mod Shifts
 pub mod Zips

@@ -1,12 +1,9 @@
 ghost use Rattle.std.specs.Prelude.{◌≡◌, ℕ, ◌+◌, ◌-◌, ◌^◌, ◌<◌, ◌↔◌, ◌≢◌, length, [], map, All, AllPairs, Contains, EachIndex, IfOk, slice_get, slice_index};
 ghost use Rattle.std.specs.List.{zip};
-ghost use Rattle.std.specs.Ordering.{nat_cmp};
-ghost use Rattle.std.specs.BTreeMap.{IsOrdered};
 ghost use Rattle.marked_lines.specs.Moves.{image, turned, IsPerm, shifted, after_insertion};
 
 use ss_base::Memory;
 use std::alloc::{AllocError, Global};
-use std::collections::BTreeMap;
 use std::marker::Model;
 
 /// A permutation of positions that moves finitely many of them. Contracts see it as the list of
@@ -51,7 +48,7 @@ impl Perm {
         ensures others { IfOk result (λ r. (p : ℕ) → ¬ Contains from.now p → image r p ≡ p) }
     {
         let pairs = pairs_of(alloc, from, to)?;
-        settled(alloc, pairs)
+        settled(pairs)
     }
 
     /// The image of a position, in the logarithm of the number of moved positions.
@@ -82,14 +79,15 @@ impl Perm {
         &self.moves
     }
 
-    /// This permutation and then the next one, in the time of sorting the moved positions of both.
+    /// This permutation and then the next one. It takes the time of looking up each image of the first
+    /// in the next, and that of merging the moved positions of both.
     pub fn then(&self, next: &Perm) -> Result<Perm, Memory>
         ensures bijective { IfOk result IsPerm }
         ensures composed { IfOk result (λ r. (p : ℕ) → image r p ≡ image next.now (image self.now p)) }
     {
         let mut pairs = moved_on(&self.moves, next)?;
         pairs.extend_from_slice(&next.moves)?;
-        settled(*self.moves.allocator(), pairs)
+        settled(pairs)
     }
 
     /// The permutation that undoes this one, in the time of sorting its moved positions.
@@ -100,7 +98,7 @@ impl Perm {
         ensures redoes { IfOk result (λ r. (p : ℕ) → image self.now (image r p) ≡ p) }
     {
         let pairs = turned_moves(&self.moves)?;
-        settled(*self.moves.allocator(), pairs)
+        settled(pairs)
     }
 
     /// An equal permutation, in the time of copying it.
@@ -169,28 +167,14 @@ fn place_after(inserted: u32, p: u32) -> u32
     if p < inserted { p } else { p + 1 }
 }
 
-// The permutation that sends each position as the first pair that begins with it says. Pairs are
-// taken from the last, so that an earlier one overrides a later one.
-fn settled(alloc: Global, mut pairs: Vec<(u32, u32)>) -> Result<Perm, Memory>
+// The permutation that sends each position as the first pair that begins with it says. It takes the
+// time of sorting the pairs, and of merging them where they are few runs that ascend.
+fn settled(mut pairs: Vec<(u32, u32)>) -> Result<Perm, Memory>
     requires bijective { (back : ℕ → ℕ) × ((p : ℕ) → back (image pairs.items p) ≡ p) × ((q : ℕ) → image pairs.items (back q) ≡ q) }
     ensures { IfOk result (λ r. IsPerm r × ((p : ℕ) → image r p ≡ image pairs.items p)) }
 {
-    let mut map = BTreeMap::new(alloc);
-    while let Some((p, q)) = pairs.pop() {
-        if p == q {
-            let _ = map.remove(&p);
-        } else {
-            map.insert(p, q)?;
-        }
-    }
-    let moves = entries(alloc, map)?;
-    Ok(Perm { moves })
-}
-
-// The keys of a map, ascending, each with its value.
-fn entries(alloc: Global, map: BTreeMap<u32, u32>) -> Result<Vec<(u32, u32)>, AllocError>
-    ensures ok { IfOk result (λ v. v.items ≡ map.entries) }
-    ensures ordered { IsOrdered nat_cmp map }
-{
-    map.into_iter().collect(alloc)
+    pairs.sort_by_key(|m| m.0)?;
+    pairs.dedup_by_key(|m| m.0);
+    pairs.retain(|m| m.0 != m.1);
+    Ok(Perm { moves: pairs })
 }

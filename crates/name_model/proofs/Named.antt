@@ -22,7 +22,7 @@ use Rattle.sheet_ops.proofs.Convergence.{converges, one_in, new_for}
 use Rattle.sheet_ops.proofs.Names.{EachNew-append, EachNew-behind, first_new, each_new}
 use Rattle.sheet_ops.proofs.Published.{effect_fits_again}
 use Rattle.name_model.proofs.StayNew.{others_behind, others_front, others_both, others_before, differ_without, act_formed, act_new, step_formed, act_each_new, step_each_new}
-use Rattle.name_model.specs.InTurn.{brought_each, locate_each, EachFits, size_past_each, own_each_past, other_past_each, StepsEach}
+use Rattle.name_model.specs.InTurn.{brought_each, locate_each, EachFitsInTurn, size_past_each, own_each_past, other_past_each, StepsEach}
 use Rattle.name_model.specs.Laws.{IsByIdentity, IsWhole}
 use Rattle.name_model.proofs.Lifted.{placed-lifted, lifted-formed, lifted-new}
 use Rattle.name_model.proofs.Turns.{each_fits}
@@ -85,7 +85,7 @@ size_of-act X ok N s sized c located fits =
     ∙ (size_of-step X (effect_of_intent (locate X N)) (brought N) (own_effect_fits (size_of X) (locate X N) here) ∙ (λ i. size_past (sized i) (effect_of_intent (located i))))
 
 -- ---- the position steps of the effects do what the operations do
-pub run_is : (Ns : List IdOp) (cs : List Intent) (X : IdSheet) → IsWellFormed X → locate_each X Ns ≡ cs → EachFits (size_of X) cs → AreNew X (brought_each Ns) → (P Q : PlacedSheet) → placed X ≡ P → StepsEach P cs Q → placed (acts X Ns) ≡ Q
+pub run_is : (Ns : List IdOp) (cs : List Intent) (X : IdSheet) → IsWellFormed X → locate_each X Ns ≡ cs → EachFitsInTurn (size_of X) cs → AreNew X (brought_each Ns) → (P Q : PlacedSheet) → placed X ≡ P → StepsEach P cs Q → placed (acts X Ns) ≡ Q
 run_is [] [] X ok located fits new P Q is steps = is ∙ steps
 run_is [] (c ∷ cs) X ok located fits new P Q is steps = absurd (cc)
 run_is (N ∷ Ns) [] X ok located fits new P Q is steps = absurd (cc)
@@ -100,7 +100,7 @@ run_is (N ∷ Ns) (c ∷ cs) X ok located fits new P Q is (R, first, rest) =
       new = act_each_new X ok N fit (brought_each Ns) new.differ (EachNew-behind X (brought N) (brought_each Ns) new.new);
       differ = differ_behind (brought N) (brought_each Ns) new.differ;
     } in
-    run_is Ns cs (act X N) (act_formed X ok N fit mine) behind (subst (λ (z : Size). EachFits z cs) (sym (size_of-act X ok N (size_of X) refl c here fits.0)) fits.1) later R Q (ap placed (sym done) ∙ stepped) rest
+    run_is Ns cs (act X N) (act_formed X ok N fit mine) behind (subst (λ (z : Size). EachFitsInTurn z cs) (sym (size_of-act X ok N (size_of X) refl c here fits.0)) fits.1) later R Q (ap placed (sym done) ∙ stepped) rest
 
 -- ---- the two ways meet
 record EachMeets (X : IdSheet) (Ns : List IdOp) (e : Effect) (ids : List LineId) (own : List Intent) (other : Effect) : Type 0 where
@@ -110,7 +110,7 @@ record EachMeets (X : IdSheet) (Ns : List IdOp) (e : Effect) (ids : List LineId)
   formed : IsWellFormed (acts X Ns)
   new : EachNew (acts X Ns) ids
 
-each_meets : (Ns : List IdOp) (cs : List Intent) (X : IdSheet) (s : Size) (e : Effect) (ids : List LineId) → IsWellFormed X → size_of X ≡ s → locate_each X Ns ≡ cs → EachFits s cs → EffectFits s e →
+each_meets : (Ns : List IdOp) (cs : List Intent) (X : IdSheet) (s : Size) (e : Effect) (ids : List LineId) → IsWellFormed X → size_of X ≡ s → locate_each X Ns ≡ cs → EachFitsInTurn s cs → EffectFits s e →
     length ids ≡ operations_in e → AreNew X (brought_each Ns ++ ids) → EachMeets X Ns e ids (own_each_past s cs e) (other_past_each s cs e)
 each_meets [] [] X s e ids ok sized located fits effect many new = record { located = refl; same = refl; as_many = refl; formed = ok; new = new.new }
 each_meets [] (c ∷ cs) X s e ids ok sized located fits effect many new = absurd (cc)
@@ -145,7 +145,7 @@ size_placed X P is = sym (marked X) ∙ ap placed_size is
     marked : (X : IdSheet) → placed_size (placed X) ≡ size_of X
     marked X = λ i. record { rows = length-map X.rows.lines (λ l. X.rows.dead l.rec) i; cols = length-map X.cols.lines (λ l. X.cols.dead l.rec) i }
 
-module _ (P : PlacedSheet) (own : List Intent) (other : Effect) (fits : EachFits (placed_size P) own) (effect : EffectFits (placed_size P) other) where
+module _ (P : PlacedSheet) (own : List Intent) (other : Effect) (fits : EachFitsInTurn (placed_size P) own) (effect : EffectFits (placed_size P) other) where
   -- the effect first
   pub left_by_identity : (R Q : PlacedSheet) → StepsTo P other R → StepsEach R (own_each_past (placed_size P) own other) Q → IsByIdentity P own other Q
   left_by_identity R Q first steps X Ns ids ok is located many new =
@@ -155,7 +155,7 @@ module _ (P : PlacedSheet) (own : List Intent) (other : Effect) (fits : EachFits
       let new_e : IsNewFor other X ids = new_for X ids ok (first_new X ids (many ∙ one_in other) (EachNew-behind X (brought_each Ns) ids new.new)) other in
       let size_after : size_of (step X other ids) ≡ size_past (placed_size P) other = size_of-step X other ids effect' ∙ ap (λ (z : Size). size_past z other) sized in
       run_is Ns (own_each_past (placed_size P) own other) (step X other ids) (step_formed X ok other ids new_e effect') (sym meets.located)
-      (subst (λ (z : Size). EachFits z (own_each_past (placed_size P) own other)) (sym size_after) (each_fits (placed_size P) own other fits effect).0)
+      (subst (λ (z : Size). EachFitsInTurn z (own_each_past (placed_size P) own other)) (sym size_after) (each_fits (placed_size P) own other fits effect).0)
       (record {
         new = step_each_new X ok other ids effect' (brought_each Ns) (others_first (brought_each Ns) ids (many ∙ one_in other) new.differ) (new_front X (brought_each Ns) ids new.new);
         differ = differ_front (brought_each Ns) ids new.differ;
@@ -167,7 +167,7 @@ module _ (P : PlacedSheet) (own : List Intent) (other : Effect) (fits : EachFits
   right_by_identity R Q steps last X Ns ids ok is located many new =
       let sized = size_placed X P is in
       let meets = each_meets Ns own X (placed_size P) other ids ok sized located fits effect many new in
-      let there : placed (acts X Ns) ≡ R = run_is Ns own X ok located (subst (λ (z : Size). EachFits z own) (sym sized) fits) (record { new = new_front X (brought_each Ns) ids new.new; differ = differ_front (brought_each Ns) ids new.differ }) P R is steps in
+      let there : placed (acts X Ns) ≡ R = run_is Ns own X ok located (subst (λ (z : Size). EachFitsInTurn z own) (sym sized) fits) (record { new = new_front X (brought_each Ns) ids new.new; differ = differ_front (brought_each Ns) ids new.differ }) P R is steps in
       ap placed meets.same
       ∙ last (acts X Ns) ids meets.formed (new_for (acts X Ns) ids meets.formed (first_new (acts X Ns) ids (many ∙ one_in other) meets.new) (other_past_each (placed_size P) own other)) there
 
@@ -242,7 +242,7 @@ brought_new X (c ∷ cs) V first new =
     EachNew-append X (brought (resolve V 1 first c)) (brought_each (resolve_each (act V (resolve V 1 first c)) (suc first) cs)) (brought_one X V first c (new first (omega arith)))
     (brought_new X cs (act V (resolve V 1 first c)) (suc first) (λ n h. new n (omega arith)))
 
-each_located : (cs : List Intent) (X : IdSheet) → IsWellFormed X → (first : ℕ) → ((n : ℕ) → first ≤ n → IsNew X (operation_id 1 n)) → EachFits (size_of X) cs → locate_each X (resolve_each X first cs) ≡ cs
+each_located : (cs : List Intent) (X : IdSheet) → IsWellFormed X → (first : ℕ) → ((n : ℕ) → first ≤ n → IsNew X (operation_id 1 n)) → EachFitsInTurn (size_of X) cs → locate_each X (resolve_each X first cs) ≡ cs
 unfolding resolve_each
 each_located [] X ok first new fits = refl
 each_located (c ∷ cs) X ok first new fits =
@@ -251,11 +251,11 @@ each_located (c ∷ cs) X ok first new fits =
     let formed = act_formed X ok (resolve X 1 first c) fit (brought_one X X first c (new first (omega arith))) in
     let next = size_of-act X ok (resolve X 1 first c) (size_of X) refl c located fits.0 in
     let again = each_located cs (act X (resolve X 1 first c)) formed (suc first)
-    (λ n low. act_new X ok (resolve X 1 first c) fit (operation_id 1 n) (brought_other X first n c (earlier first n (omega arith))) (new n (omega arith))) (subst (λ (z : Size). EachFits z cs) (sym next) fits.1) in
+    (λ n low. act_new X ok (resolve X 1 first c) fit (operation_id 1 n) (brought_other X first n c (earlier first n (omega arith))) (new n (omega arith))) (subst (λ (z : Size). EachFitsInTurn z cs) (sym next) fits.1) in
     λ i. located i ∷ again i
 
 -- so both ways lead to one sheet
-pub both_same : (P : PlacedSheet) → IsWhole P → (own : List Intent) (other : Effect) → EachFits (placed_size P) own → (Q R : PlacedSheet) → IsByIdentity P own other Q → IsByIdentity P own other R → Q ≡ R
+pub both_same : (P : PlacedSheet) → IsWhole P → (own : List Intent) (other : Effect) → EachFitsInTurn (placed_size P) own → (Q R : PlacedSheet) → IsByIdentity P own other Q → IsByIdentity P own other R → Q ≡ R
 both_same P whole own other fits Q R left right =
     let X = lifted P in
     let is : placed (lifted P) ≡ P = placed-lifted P whole in
@@ -263,7 +263,7 @@ both_same P whole own other fits Q R left right =
     let ids = operation_ids 2 1 (operations_in other) in
     let ok = lifted-formed P in
     let mine : (n : ℕ) → 1 ≤ n → IsNew (lifted P) (operation_id 1 n) = λ n h. lifted-new P 1 n (omega arith) in
-    let located : locate_each (lifted P) (resolve_each (lifted P) 1 own) ≡ own = each_located own (lifted P) ok 1 mine (subst (λ (z : Size). EachFits z own) (sym (size_placed (lifted P) P is)) fits) in
+    let located : locate_each (lifted P) (resolve_each (lifted P) 1 own) ≡ own = each_located own (lifted P) ok 1 mine (subst (λ (z : Size). EachFitsInTurn z own) (sym (size_placed (lifted P) P is)) fits) in
     let new : AreNew (lifted P) (brought_each (resolve_each (lifted P) 1 own) ++ operation_ids 2 1 (operations_in other)) = record {
       new = EachNew-append (lifted P) (brought_each (resolve_each (lifted P) 1 own)) (operation_ids 2 1 (operations_in other)) (brought_new (lifted P) own (lifted P) 1 mine) (each_new (lifted P) 2 1 (operations_in other) (λ n h. lifted-new P 2 n (omega arith)));
       differ = each_differ (operations_in other) (one_in other) own (lifted P) 1;

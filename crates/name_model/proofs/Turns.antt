@@ -12,7 +12,7 @@ use Rattle.sheet_ops.specs.Placed.{PlacedSheet}
 use Rattle.sheet_ops.specs.Transforms.{own_past, other_past}
 use Rattle.sheet_ops.proofs.Convergence.{converges}
 use Rattle.sheet_ops.proofs.Published.{own_fits_again, effect_fits_again}
-use Rattle.name_model.specs.InTurn.{EachFits, size_past_each, own_each_past, other_past_each, StepsEach}
+use Rattle.name_model.specs.InTurn.{EachFitsInTurn, size_past_each, own_each_past, other_past_each, StepsEach}
 use Rattle.name_model.proofs.Sized.{grows, sizes_meet}
 
 -- ---- the next of a list
@@ -56,15 +56,15 @@ grows_each s (c ∷ cs) =
     (omega (arith, one.0, rest.0), omega (arith, one.1, rest.1))
 
 -- ---- past another's effect
-pub each_fits : (s : Size) (cs : List Intent) (e : Effect) → EachFits s cs → EffectFits s e →
-    EachFits (size_past s e) (own_each_past s cs e) × EffectFits (size_past_each s cs) (other_past_each s cs e)
+pub each_fits : (s : Size) (cs : List Intent) (e : Effect) → EachFitsInTurn s cs → EffectFits s e →
+    EachFitsInTurn (size_past s e) (own_each_past s cs e) × EffectFits (size_past_each s cs) (other_past_each s cs e)
 each_fits s [] e f g = (tt, g)
 each_fits s (c ∷ cs) e f g =
     let pair = converges s c e f.0 g in
     let own = own_fits_again s c e (own_past c e) (other_past s c e) f.0 g pair in
     let other = effect_fits_again s c e (own_past c e) (other_past s c e) f.0 g pair in
     let rest = each_fits (size_past s (effect_of_intent c)) cs (other_past s c e) f.1 other in
-    ((own, subst (λ (z : Size). EachFits z (own_each_past (size_past s (effect_of_intent c)) cs (other_past s c e))) (sym (sizes_meet s c e)) rest.0), rest.1)
+    ((own, subst (λ (z : Size). EachFitsInTurn z (own_each_past (size_past s (effect_of_intent c)) cs (other_past s c e))) (sym (sizes_meet s c e)) rest.0), rest.1)
 
 pub length-own_each_past : (s : Size) (cs : List Intent) (e : Effect) → length (own_each_past s cs e) ≡ length cs
 length-own_each_past s [] e = refl
@@ -82,5 +82,5 @@ module _ (now later : Size) (cs rest : List Intent) (c after : Intent) (e past :
   pub other_more : (all : Effect) → all ≡ other_past_each now cs e → all ≡ other_past_each later rest past
   other_more all before = before ∙ (ap (λ (xs : List Intent). other_past_each now xs e) left ∙ (λ i. other_past_each (sym size i) rest (sym other i)))
 
-  pub fits_rest : EachFits now cs → EachFits later rest
-  fits_rest f = subst (λ (z : Size). EachFits z rest) (sym size) (subst (λ (xs : List Intent). EachFits now xs) left f).1
+  pub fits_rest : EachFitsInTurn now cs → EachFitsInTurn later rest
+  fits_rest f = subst (λ (z : Size). EachFitsInTurn z rest) (sym size) (subst (λ (xs : List Intent). EachFitsInTurn now xs) left f).1

@@ -29,9 +29,9 @@ size_past_each s [] = s
 size_past_each s (c ∷ cs) = size_past_each (size_past s (effect_of_intent c)) cs
 
 -- each fits the size that those before it leave
-abbrev pub EachFits : Size → List Intent → Type 0
-EachFits s [] = Unit {0}
-EachFits s (c ∷ cs) = IntentFits s c × EachFits (size_past s (effect_of_intent c)) cs
+abbrev pub EachFitsInTurn : Size → List Intent → Type 0
+EachFitsInTurn s [] = Unit {0}
+EachFitsInTurn s (c ∷ cs) = IntentFits s c × EachFitsInTurn (size_past s (effect_of_intent c)) cs
 
 -- each to be done after another's effect, as those before it have changed that
 abbrev pub own_each_past : Size → List Intent → Effect → List Intent

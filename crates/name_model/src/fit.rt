@@ -1,5 +1,5 @@
 ghost use Rattle.std.specs.Prelude.{◌≡◌, ◌≤◌, ◌+◌, ◌↔◌, true, length};
-ghost use Rattle.name_model.specs.InTurn.{EachFits};
+ghost use Rattle.name_model.specs.InTurn.{EachFitsInTurn};
 
 use sheet_ops::{Intent, fits, size_past_own};
 use ss_base::Size;
@@ -9,7 +9,7 @@ use ss_base::Size;
 pub fn fits_each(own: &[Intent], size: Size) -> bool
     requires rows { size.rows + length own.now ≤ 16000 }
     requires cols { size.cols + length own.now ≤ 16000 }
-    ensures { result ≡ true ↔ EachFits size own.now }
+    ensures { result ≡ true ↔ EachFitsInTurn size own.now }
 {
     let mut now = size;
     for op in own {

@@ -2,7 +2,7 @@ ghost use Rattle.std.specs.Prelude.{◌≡◌, ◌≤◌, ◌+◌, length, IfOk}
 ghost use Rattle.sheet_ops.specs.Fits.{EffectFits};
 ghost use Rattle.sheet_ops.specs.Placed.{placed_size};
 ghost use Rattle.sheet_grid.specs.Values.{placed_in};
-ghost use Rattle.name_model.specs.InTurn.{EachFits, own_each_past, other_past_each};
+ghost use Rattle.name_model.specs.InTurn.{EachFitsInTurn, own_each_past, other_past_each};
 ghost use Rattle.name_model.specs.Laws.{IsByIdentity};
 
 use crate::steps::{apply_each, apply_effect};
@@ -30,7 +30,7 @@ pub struct Chain {
 /// then the own operations give by identity. It takes the time of copying the sheet twice and of
 /// doing each operation.
 pub fn chain_ways(sheet: &Sheet, own: &Seq<Intent>, other: &Effect) -> Result<Chain, Memory>
-    requires own { EachFits (placed_size (placed_in sheet.now)) own.now }
+    requires own { EachFitsInTurn (placed_size (placed_in sheet.now)) own.now }
     requires other { EffectFits (placed_size (placed_in sheet.now)) other.now }
     requires rows { length (placed_in sheet.now).rows + length own.now + 1 ≤ 16000 }
     requires cols { length (placed_in sheet.now).cols + length own.now + 1 ≤ 16000 }
@@ -59,7 +59,7 @@ pub fn chain_ways(sheet: &Sheet, own: &Seq<Intent>, other: &Effect) -> Result<Ch
 fn pass_each(own: &Seq<Intent>, other: &Effect, size: Size) -> Result<(Seq<Intent>, Effect), Memory>
     requires rows { size.rows + length own.now ≤ 16000 }
     requires cols { size.cols + length own.now ≤ 16000 }
-    requires own { EachFits size own.now }
+    requires own { EachFitsInTurn size own.now }
     requires other { EffectFits size other.now }
     ensures own { IfOk result (λ pair. pair.0 ≡ own_each_past size own.now other.now) }
     ensures other { IfOk result (λ pair. pair.1 ≡ other_past_each size own.now other.now) }

@@ -5,7 +5,7 @@ ghost use Rattle.sheet_ops.specs.Fits.{IntentFits, EffectFits};
 ghost use Rattle.sheet_ops.specs.Naming.{effect_of_intent};
 ghost use Rattle.sheet_ops.specs.Placed.{placed_size};
 ghost use Rattle.sheet_grid.specs.Values.{placed_in};
-ghost use Rattle.name_model.specs.InTurn.{EachFits, StepsEach, size_past_each};
+ghost use Rattle.name_model.specs.InTurn.{EachFitsInTurn, StepsEach, size_past_each};
 
 use sheet_grid::Sheet;
 use sheet_ops::{Effect, Intent, effect_of};
@@ -37,7 +37,7 @@ pub fn apply_own(sheet: &mut Sheet, own: &Intent) -> Result<(), Memory>
 /// Does the effects of own operations one after another on a sheet that has room for as many lines
 /// more.
 pub fn apply_each(sheet: &mut Sheet, own: &[Intent]) -> Result<(), Memory>
-    requires fits { EachFits (placed_size (placed_in sheet.old)) own.now }
+    requires fits { EachFitsInTurn (placed_size (placed_in sheet.old)) own.now }
     requires rows { length (placed_in sheet.old).rows + length own.now ≤ 16000 }
     requires cols { length (placed_in sheet.old).cols + length own.now ≤ 16000 }
     ensures steps { OnOk result (StepsEach (placed_in sheet.old) own.now (placed_in sheet.new)) }

@@ -9,7 +9,7 @@ use Rattle.std.proofs.lemmas.List.{length-append}
 use Rattle.std.proofs.lemmas.List.Splits.{join_with_byte-slice_split}
 use Rattle.ss_base.specs.declared.types.Spot.{Spot}
 use Rattle.ss_base.specs.declared.types.Span.{Span}
-use Rattle.cell_addr.specs.Cells.{cell_of, range_of, range_at, span_of, is_colon}
+use Rattle.cell_addr.specs.Cells.{cell_of, range_of, range_at, span_of_corners, is_colon}
 use Rattle.cell_addr.specs.Columns.{col_named}
 use Rattle.cell_addr.specs.Rows.{is_count, counted, row_numbered}
 use Rattle.cell_addr.proofs.Digits.{count_size}
@@ -17,19 +17,19 @@ use Rattle.sheet_ops.specs.declared.edit.Edit.{Edit}
 use Rattle.sheet_ops.specs.declared.edit.Edit.TheVariants as edit
 use Rattle.script_read.specs.declared.command.Command.{Command}
 use Rattle.script_read.specs.declared.command.Command.TheVariants as command
-use Rattle.script_read.specs.Commands.{command_of, is_note, sheet_sized, push_of, pull_of, plain_cell, plain_range, set_of, clear_of, read_of, copy_of, rows_between, rows_at, rows_of, is_downward, sort_by, sort_of, line_edit_of, of_one_word, of_one_site, of_two_words, of_one_line, of_three_words, of_more_words, of_words, IsWithin}
-use Rattle.script_read.specs.Words.{is_printable, words, named}
+use Rattle.script_read.specs.Commands.{command_of, is_note, sheet_sized, push_of, pull_of, plain_cell, plain_range, set_of, clear_of, read_of, copy_of, rows_between, rows_at, row_range_of, is_downward, sort_command, sort_of, line_edit_of, of_one_word, of_one_site, of_two_words, of_one_line, of_three_words, of_more_words, of_words, CommandWithin}
+use Rattle.script_read.specs.Words.{is_line_byte, words, named}
 
 module _ (most : ℕ) where
   abbrev IsGood : Option Command → Type 0
   IsGood None = Unit {0}
-  IsGood (Some c) = IsWithin most c
+  IsGood (Some c) = CommandWithin most c
 
   good_if : (b : Bool) (x y : Option Command) → IsGood x → IsGood y → IsGood (cond b x y)
   good_if true x y g h = g
   good_if false x y g h = h
 
-  good_map : {A : Type 0} (f : A → Command) → ((x : A) → IsWithin most (f x)) → (o : Option A) → IsGood (option_map f o)
+  good_map : {A : Type 0} (f : A → Command) → ((x : A) → CommandWithin most (f x)) → (o : Option A) → IsGood (option_map f o)
   good_map f h None = tt
   good_map f h (Some x) = h x
 
@@ -70,7 +70,7 @@ module _ (most : ℕ) where
   IsOrdered None = Unit {0}
   IsOrdered (Some range) = (range.top ≤ range.bottom) × (range.left ≤ range.right)
 
-  ordered_between : (a b : Option Spot) → IsOrdered (span_of a b)
+  ordered_between : (a b : Option Spot) → IsOrdered (span_of_corners a b)
   ordered_between None b = tt
   ordered_between (Some a) None = tt
   ordered_between (Some a) (Some b) = (by_test a.row b.row (nat_le a.row b.row) refl, by_test a.col b.col (nat_le a.col b.col) refl)
@@ -109,7 +109,7 @@ module _ (most : ℕ) where
   AreOrdered None = Unit {0}
   AreOrdered (Some rows) = rows.0 ≤ rows.1
 
-  ordered_rows : (text : List ℕ) → AreOrdered (rows_of text)
+  ordered_rows : (text : List ℕ) → AreOrdered (row_range_of text)
   ordered_rows text = at_colon (position is_colon text)
     where
       between : (a b : Option ℕ) → AreOrdered (rows_between a b)
@@ -121,7 +121,7 @@ module _ (most : ℕ) where
       at_colon None = tt
       at_colon (Some colon) = between (row_numbered (take colon text)) (row_numbered (drop (colon + 1) text))
 
-  good_sort_by : (name : Option (List ℕ)) (rows : Option (ℕ × ℕ)) (col : Option ℕ) (down : Option Bool) → AreOrdered rows → IsGood (sort_by name rows col down)
+  good_sort_by : (name : Option (List ℕ)) (rows : Option (ℕ × ℕ)) (col : Option ℕ) (down : Option Bool) → AreOrdered rows → IsGood (sort_command name rows col down)
   good_sort_by None rows col down h = tt
   good_sort_by (Some name) None col down h = tt
   good_sort_by (Some name) (Some rows) None down h = tt
@@ -145,7 +145,7 @@ module _ (most : ℕ) where
   good_clear (Some name) None = tt
   good_clear (Some name) (Some spot) = tt
 
-  good_line_edit : (what : ℕ → Edit) → ((n : ℕ) → IsWithin most (command.Edit [] (what n))) → (name : Option (List ℕ)) (index : Option ℕ) → IsGood (line_edit_of what name index)
+  good_line_edit : (what : ℕ → Edit) → ((n : ℕ) → CommandWithin most (command.Edit [] (what n))) → (name : Option (List ℕ)) (index : Option ℕ) → IsGood (line_edit_of what name index)
   good_line_edit what h None index = tt
   good_line_edit what h (Some name) None = tt
   good_line_edit what h (Some name) (Some n) = h n
@@ -190,7 +190,7 @@ module _ (most : ℕ) where
   good_more a b c rest h =
       good_if (bytes_eq b (codes "set")) _ _ (good_set (named a) (plain_cell (cell_of c)) rest h)
       (good_if (bytes_eq b (codes "copy")) _ _ (good_copy (named a) (plain_range (range_of c)) (plain_cell (cell_of rest)) (ordered_plain (range_of c) (ordered_range c)))
-      (good_if (bytes_eq b (codes "sort")) _ None (good_sort (words rest) (named a) (rows_of c) (ordered_rows c)) tt))
+      (good_if (bytes_eq b (codes "sort")) _ None (good_sort (words rest) (named a) (row_range_of c) (ordered_rows c)) tt))
 
   -- a line is longer than what stands behind its first word
   behind_shorter : (word next : List ℕ) (others : List (List ℕ)) → length (join_with_byte 32 (next ∷ others)) ≤ length (join_with_byte 32 (word ∷ next ∷ others))
@@ -206,8 +206,8 @@ module _ (most : ℕ) where
 
   good_line : (line : List ℕ) → length line ≤ most → IsGood (command_of line)
   good_line line h =
-      good_if (list_all is_printable line) _ None
+      good_if (list_all is_line_byte line) _ None
       (good_if (is_note line) (Some command.Note) _ tt (good_words (words line) (subst (λ (bs : List ℕ). length bs ≤ most) (sym (join_with_byte-slice_split 32 line)) h))) tt
 
-pub line_within : (line : List ℕ) (c : Command) → command_of line ≡ Some c → IsWithin (length line) c
+pub line_within : (line : List ℕ) (c : Command) → command_of line ≡ Some c → CommandWithin (length line) c
 line_within line c e = subst (λ (o : Option Command). IsGood (length line) o) e (good_line (length line) line (omega arith))

@@ -11,7 +11,7 @@ use Rattle.sheet_ops.specs.declared.edit.Edit.{Edit}
 use Rattle.sheet_ops.specs.declared.edit.Edit.TheVariants as edit
 use Rattle.script_read.specs.declared.command.Command.{Command}
 use Rattle.script_read.specs.declared.command.Command.TheVariants as command
-use Rattle.script_read.specs.Words.{is_printable, words, named}
+use Rattle.script_read.specs.Words.{is_line_byte, words, named}
 
 -- `sheet COUNT COUNT`, of at most 1,000 rows and 64 columns
 abbrev pub sheet_sized : Option ℕ → Option ℕ → Option Command
@@ -69,21 +69,21 @@ abbrev pub rows_at : Option ℕ → List ℕ → Option (ℕ × ℕ)
 rows_at None text = None
 rows_at (Some colon) text = rows_between (row_numbered (take colon text)) (row_numbered (drop (colon + 1) text))
 
-abbrev pub rows_of : List ℕ → Option (ℕ × ℕ)
-rows_of text = rows_at (position is_colon text) text
+abbrev pub row_range_of : List ℕ → Option (ℕ × ℕ)
+row_range_of text = rows_at (position is_colon text) text
 
 -- whether a sort goes downwards
 abbrev pub is_downward : List ℕ → Option Bool
 is_downward word = if bytes_eq word (codes "up") then Some false else if bytes_eq word (codes "down") then Some true else None
 
 -- `NAME sort COUNT:COUNT LETTERS up`, or `down`
-abbrev pub sort_by : Option (List ℕ) → Option (ℕ × ℕ) → Option ℕ → Option Bool → Option Command
-sort_by (Some name) (Some rows) (Some col) (Some down) = Some (command.Edit name (edit.Sort rows.0 rows.1 col down))
-sort_by _ _ _ _ = None
+abbrev pub sort_command : Option (List ℕ) → Option (ℕ × ℕ) → Option ℕ → Option Bool → Option Command
+sort_command (Some name) (Some rows) (Some col) (Some down) = Some (command.Edit name (edit.Sort rows.0 rows.1 col down))
+sort_command _ _ _ _ = None
 
 -- by the words behind the rows: the column's letters and the direction
 abbrev pub sort_of : List (List ℕ) → Option (List ℕ) → Option (ℕ × ℕ) → Option Command
-sort_of (col ∷ direction ∷ []) name rows = sort_by name rows (col_named col) (is_downward direction)
+sort_of (col ∷ direction ∷ []) name rows = sort_command name rows (col_named col) (is_downward direction)
 sort_of _ name rows = None
 
 -- `NAME insrow COUNT` and the like: an edit of one visible line, by its index from 0
@@ -145,7 +145,7 @@ abbrev pub of_more_words : List ℕ → List ℕ → List ℕ → List ℕ → O
 of_more_words first second third rest =
     if bytes_eq second (codes "set") then set_of (named first) (plain_cell (cell_of third)) rest
     else if bytes_eq second (codes "copy") then copy_of (named first) (plain_range (range_of third)) (plain_cell (cell_of rest))
-    else if bytes_eq second (codes "sort") then sort_of (words rest) (named first) (rows_of third)
+    else if bytes_eq second (codes "sort") then sort_of (words rest) (named first) (row_range_of third)
     else None
 
 abbrev pub of_words : List (List ℕ) → Option Command
@@ -162,7 +162,7 @@ is_note (b ∷ bs) = nat_eq b 35
 
 abbrev pub command_of : List ℕ → Option Command
 command_of line =
-    if list_all is_printable line
+    if list_all is_line_byte line
     then (if is_note line then Some command.Note else of_words (words line))
     else None
 
@@ -174,8 +174,8 @@ EditWithin most (edit.Sort first last col down) = first ≤ last
 EditWithin most _ = Unit {0}
 
 -- so is an edit, a range that is read is in order, and the size of a sheet is one that a sheet may have
-abbrev pub IsWithin : ℕ → Command → Type 0
-IsWithin most (command.Sheet size) = (1 ≤ size.rows) × (size.rows ≤ 1000) × (1 ≤ size.cols) × (size.cols ≤ 64)
-IsWithin most (command.Edit name e) = EditWithin most e
-IsWithin most (command.Read name range) = (range.top ≤ range.bottom) × (range.left ≤ range.right)
-IsWithin most _ = Unit {0}
+abbrev pub CommandWithin : ℕ → Command → Type 0
+CommandWithin most (command.Sheet size) = (1 ≤ size.rows) × (size.rows ≤ 1000) × (1 ≤ size.cols) × (size.cols ≤ 64)
+CommandWithin most (command.Edit name e) = EditWithin most e
+CommandWithin most (command.Read name range) = (range.top ≤ range.bottom) × (range.left ≤ range.right)
+CommandWithin most _ = Unit {0}

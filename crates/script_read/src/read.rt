@@ -3,9 +3,9 @@ ghost use Rattle.std.specs.List.{list_all};
 ghost use Rattle.cell_addr.specs.Cells.{cell_of, range_of};
 ghost use Rattle.cell_addr.specs.Columns.{col_named};
 ghost use Rattle.cell_addr.specs.Rows.{row_numbered};
-ghost use Rattle.script_read.specs.Commands.{command_of, IsWithin, is_note, of_words, of_one_word, of_one_site, of_two_words, of_three_words, of_one_line, of_more_words, plain_cell, plain_range, rows_of, rows_between, is_downward, set_of, sort_by, sort_of, sheet_sized};
+ghost use Rattle.script_read.specs.Commands.{command_of, CommandWithin, is_note, of_words, of_one_word, of_one_site, of_two_words, of_three_words, of_one_line, of_more_words, plain_cell, plain_range, row_range_of, rows_between, is_downward, set_of, sort_command, sort_of, sheet_sized};
 ghost use Rattle.script_read.specs.Forms.{said};
-ghost use Rattle.script_read.specs.Words.{is_printable, named, words};
+ghost use Rattle.script_read.specs.Words.{is_line_byte, named, words};
 
 use crate::command::{Command, LineFault};
 use crate::form::{Form, to_command};
@@ -19,7 +19,7 @@ use std::alloc::Global;
 /// columns, and an entry is no longer than its line.
 pub fn read_command(alloc: Global, line: &[u8]) -> Result<Command, LineFault>
     ensures command { IfOk result (λ c. command_of line.now ≡ Some c) }
-    ensures within { IfOk result (λ c. IsWithin (length line.now) c) }
+    ensures within { IfOk result (λ c. CommandWithin (length line.now) c) }
     ensures grammar { IsErrOf result LineFault.Grammar ↔ (command_of line.now ≡ None) }
 {
     match form_of(line) {
@@ -42,7 +42,7 @@ fn form_of(line: &[u8]) -> Option<Form<'_>>
 
 /// Whether a line has bytes 32 to 126 alone.
 fn is_clean(line: &[u8]) -> bool
-    ensures { result ≡ list_all is_printable line.now }
+    ensures { result ≡ list_all is_line_byte line.now }
 {
     line.iter().all(|b| (b' '..=b'~').contains(b))
 }
@@ -224,7 +224,7 @@ fn set_of<'a>(name: &'a [u8], cell: &'a [u8], entry: &'a [u8]) -> Option<Form<'a
 
 /// `NAME sort COUNT:COUNT LETTERS up`, or `down`, by what stands behind the rows.
 fn sort_of<'a>(name: &'a [u8], rows: &'a [u8], rest: &'a [u8]) -> Option<Form<'a>>
-    ensures { said result ≡ sort_of (words rest.now) (named name.now) (rows_of rows.now) }
+    ensures { said result ≡ sort_of (words rest.now) (named name.now) (row_range_of rows.now) }
 {
     let (col, rest) = cut(rest);
     let Some(rest) = rest else {
@@ -243,7 +243,7 @@ fn sort_by<'a>(
     col: &'a [u8],
     direction: &'a [u8],
 ) -> Option<Form<'a>>
-    ensures { said result ≡ sort_by (named name.now) (rows_of rows.now) (col_named col.now) (is_downward direction.now) }
+    ensures { said result ≡ sort_command (named name.now) (row_range_of rows.now) (col_named col.now) (is_downward direction.now) }
 {
     Some(Form::Sort(
         name_of(name)?,
@@ -268,7 +268,7 @@ fn is_downward(word: &[u8]) -> Option<bool>
 
 /// The indexes from 0 of the rows of two numbers parted by a colon, put in order.
 fn rows_of(text: &[u8]) -> Option<(u32, u32)>
-    ensures { result ≡ rows_of text.now }
+    ensures { result ≡ row_range_of text.now }
 {
     let colon = colon_in(text)?;
     rows_between(row_of(&text[..colon]), row_of(&text[colon + 1..]))

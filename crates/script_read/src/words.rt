@@ -6,7 +6,7 @@ ghost use Rattle.std.specs.Str.{bytes_eq};
 ghost use Rattle.std.specs.Str.Parse.{digits_value};
 ghost use Rattle.cell_addr.specs.Cells.{is_colon};
 ghost use Rattle.script_read.specs.Forms.{CutsWord};
-ghost use Rattle.script_read.specs.Words.{is_name, is_name_byte, is_reserved, is_space, named};
+ghost use Rattle.script_read.specs.Words.{is_site_name, is_site_name_byte, is_reserved, is_space, named};
 
 /// Words that no site may have as its name.
 const RESERVED: &[u8] = b"sheet site push pull recalc show values history wire end all server";
@@ -51,7 +51,7 @@ pub fn name_of(text: &[u8]) -> Option<&[u8]>
 }
 
 fn is_name(text: &[u8]) -> bool
-    ensures { result ≡ is_name text.now }
+    ensures { result ≡ is_site_name text.now }
 {
     match text {
         [] => false,
@@ -65,7 +65,7 @@ fn is_name(text: &[u8]) -> bool
 }
 
 fn are_name_bytes(text: &[u8]) -> bool
-    ensures { result ≡ list_all is_name_byte text.now }
+    ensures { result ≡ list_all is_site_name_byte text.now }
 {
     text.iter()
         .all(|b| b.is_ascii_lowercase() || b.is_ascii_digit())

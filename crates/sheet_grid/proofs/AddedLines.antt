@@ -17,7 +17,7 @@ use Rattle.sheet_ops.specs.Effects.{effect_on}
 use Rattle.sheet_ops.proofs.Renamed.{references_weaker}
 use Rattle.sheet_ops.proofs.Convergence.{rows_carried, cols_carried}
 use Rattle.sheet_ops.proofs.PlacedSteps.{placed-step}
-use Rattle.sheet_grid.specs.Kept.{NumberedAxis, Kept, axis, by_numbers, kept_size, line_added, IsKeptAxis, IsSheet}
+use Rattle.sheet_grid.specs.Kept.{NumberedAxis, KeptSheet, axis, by_numbers, kept_size, line_added, IsKeptAxis, IsSheet}
 use Rattle.sheet_grid.proofs.InsertedNumbers.{numbered_inserted, axis_inserted}
 use Rattle.sheet_grid.proofs.Meanings.{length-lines_of}
 use Rattle.sheet_grid.proofs.WellFormed.{numbers_below, axis_new, slot_found, kept_formed, kept_inside, nothing}
@@ -27,7 +27,7 @@ pub same_order : (p a b : ℕ) → nat_le (after_insertion p a) (after_insertion
 same_order p a b = grind (arith, nat_tests)
 
 -- the sheet by positions after a row more is what the insertion says
-pub ins_row_kept : (k : Kept) → IsSheet k → (p : ℕ) → p ≤ length k.rows.slots → placed (by_numbers (record k { rows = line_added k.rows p })) ≡ effect_on (placed (by_numbers k)) (effect.InsRow p)
+pub ins_row_kept : (k : KeptSheet) → IsSheet k → (p : ℕ) → p ≤ length k.rows.slots → placed (by_numbers (record k { rows = line_added k.rows p })) ≡ effect_on (placed (by_numbers k)) (effect.InsRow p)
 ins_row_kept k (rs, rr, cs, cr, ok) p h =
     let n = length k.rows.slots in
     let f : p ≤ length (axis k.rows).lines = let e = length-lines_of k.rows.slots k.rows.recs ok.rows.as_many in omega arith in
@@ -42,7 +42,7 @@ ins_row_kept k (rs, rr, cs, cr, ok) p h =
     ∙ placed-step (by_numbers k) (effect.InsRow p) (opening_id n ∷ []) (kept_formed k rs rr cs cr ok) new f (kept_inside k rs rr cs cr ok)
 
 -- and after a column more
-pub ins_col_kept : (k : Kept) → IsSheet k → (p : ℕ) → p ≤ length k.cols.slots → placed (by_numbers (record k { cols = line_added k.cols p })) ≡ effect_on (placed (by_numbers k)) (effect.InsCol p)
+pub ins_col_kept : (k : KeptSheet) → IsSheet k → (p : ℕ) → p ≤ length k.cols.slots → placed (by_numbers (record k { cols = line_added k.cols p })) ≡ effect_on (placed (by_numbers k)) (effect.InsCol p)
 ins_col_kept k (rs, rr, cs, cr, ok) p h =
     let n = length k.cols.slots in
     let f : p ≤ length (axis k.cols).lines = let e = length-lines_of k.cols.slots k.cols.recs ok.cols.as_many in omega arith in
@@ -89,7 +89,7 @@ content_larger s t w (content.Formula x) f =
     larger : (a m n : ℕ) → a < m → m ≤ n → a < n
     larger a m n h j = omega arith
 
-pub kept_row_added : (k : Kept) → IsSheet k → (p : ℕ) → p ≤ length k.rows.slots → length k.rows.slots < 16000 → IsSheet (record k { rows = line_added k.rows p })
+pub kept_row_added : (k : KeptSheet) → IsSheet k → (p : ℕ) → p ≤ length k.rows.slots → length k.rows.slots < 16000 → IsSheet (record k { rows = line_added k.rows p })
 kept_row_added k (rs, rr, cs, cr, ok) p h room =
     let long = length-insert k.rows.slots p (length k.rows.slots) h in (
       map (after_insertion p) rs ++ p ∷ [],
@@ -105,7 +105,7 @@ kept_row_added k (rs, rr, cs, cr, ok) p h room =
       },
     )
 
-pub kept_col_added : (k : Kept) → IsSheet k → (p : ℕ) → p ≤ length k.cols.slots → length k.cols.slots < 16000 → IsSheet (record k { cols = line_added k.cols p })
+pub kept_col_added : (k : KeptSheet) → IsSheet k → (p : ℕ) → p ≤ length k.cols.slots → length k.cols.slots < 16000 → IsSheet (record k { cols = line_added k.cols p })
 kept_col_added k (rs, rr, cs, cr, ok) p h room =
     let long = length-insert k.cols.slots p (length k.cols.slots) h in (
       rs,

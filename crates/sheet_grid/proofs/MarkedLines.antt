@@ -12,7 +12,7 @@ use Rattle.sheet_ops.specs.Placed.{placed, placed_size}
 use Rattle.sheet_ops.specs.Effects.{effect_on}
 use Rattle.sheet_ops.proofs.PlacedSteps.{placed-step}
 use Rattle.sheet_grid.specs.Numbers.{mark_of, lines_of}
-use Rattle.sheet_grid.specs.Kept.{NumberedAxis, Kept, axis, content_meant, by_numbers, kept_size, IsKeptAxis, IsSheet}
+use Rattle.sheet_grid.specs.Kept.{NumberedAxis, KeptSheet, axis, content_meant, by_numbers, kept_size, IsKeptAxis, IsSheet}
 use Rattle.sheet_ops.proofs.Ids.{same_number}
 use Rattle.sheet_grid.proofs.Compared.{other_test, turned_test}
 use Rattle.sheet_grid.proofs.InsertedNumbers.{Apart, numbered_apart}
@@ -65,13 +65,13 @@ axis_marked k sp rp ok p h = λ i. record {
         ∙ ap (λ (a : LineId). id_eq a id || (nat_eq id.site 0 && mark_of k.recs k.marks id.number)) (sym (rec_there k.slots k.recs p ok.as_many h))))
 
 -- the size by positions is how many lines ever came
-pub size_kept : (k : Kept) → IsSheet k → placed_size (placed (by_numbers k)) ≡ kept_size k
+pub size_kept : (k : KeptSheet) → IsSheet k → placed_size (placed (by_numbers k)) ≡ kept_size k
 size_kept k (rs, rr, cs, cr, ok) = λ i. record {
   rows = (length-map (axis k.rows).lines (λ (l : AxisLine). (axis k.rows).dead l.rec) ∙ length-lines_of k.rows.slots k.rows.recs ok.rows.as_many) i;
   cols = (length-map (axis k.cols).lines (λ (l : AxisLine). (axis k.cols).dead l.rec) ∙ length-lines_of k.cols.slots k.cols.recs ok.cols.as_many) i;
 }
 
-pub kept_marked : (k : Kept) → IsSheet k → (p : ℕ) → p < length k.rows.slots → IsSheet (record k { rows = marked k.rows p })
+pub kept_marked : (k : KeptSheet) → IsSheet k → (p : ℕ) → p < length k.rows.slots → IsSheet (record k { rows = marked k.rows p })
 kept_marked k (rs, rr, cs, cr, ok) p h = (
   rs,
   rr,
@@ -87,7 +87,7 @@ kept_marked k (rs, rr, cs, cr, ok) p h = (
 )
 
 -- the sheet by positions after a row was marked is what the deletion says
-pub del_row_kept : (k : Kept) → IsSheet k → (p : ℕ) → p < length k.rows.slots → placed (by_numbers (record k { rows = marked k.rows p })) ≡ effect_on (placed (by_numbers k)) (effect.DelRow p)
+pub del_row_kept : (k : KeptSheet) → IsSheet k → (p : ℕ) → p < length k.rows.slots → placed (by_numbers (record k { rows = marked k.rows p })) ≡ effect_on (placed (by_numbers k)) (effect.DelRow p)
 del_row_kept k (rs, rr, cs, cr, ok) p h =
     let f : p < length (axis k.rows).lines = let e = length-lines_of k.rows.slots k.rows.recs ok.rows.as_many in omega arith in
     (λ i. placed (record {
@@ -97,7 +97,7 @@ del_row_kept k (rs, rr, cs, cr, ok) p h =
     }))
     ∙ placed-step (by_numbers k) (effect.DelRow p) [] (kept_formed k rs rr cs cr ok) tt f (kept_inside k rs rr cs cr ok)
 
-pub kept_col_marked : (k : Kept) → IsSheet k → (p : ℕ) → p < length k.cols.slots → IsSheet (record k { cols = marked k.cols p })
+pub kept_col_marked : (k : KeptSheet) → IsSheet k → (p : ℕ) → p < length k.cols.slots → IsSheet (record k { cols = marked k.cols p })
 kept_col_marked k (rs, rr, cs, cr, ok) p h = (
   rs,
   rr,
@@ -113,7 +113,7 @@ kept_col_marked k (rs, rr, cs, cr, ok) p h = (
 )
 
 -- and after a column was marked
-pub del_col_kept : (k : Kept) → IsSheet k → (p : ℕ) → p < length k.cols.slots → placed (by_numbers (record k { cols = marked k.cols p })) ≡ effect_on (placed (by_numbers k)) (effect.DelCol p)
+pub del_col_kept : (k : KeptSheet) → IsSheet k → (p : ℕ) → p < length k.cols.slots → placed (by_numbers (record k { cols = marked k.cols p })) ≡ effect_on (placed (by_numbers k)) (effect.DelCol p)
 del_col_kept k (rs, rr, cs, cr, ok) p h =
     let f : p < length (axis k.cols).lines = let e = length-lines_of k.cols.slots k.cols.recs ok.cols.as_many in omega arith in
     (λ i. placed (record {

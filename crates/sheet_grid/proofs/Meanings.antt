@@ -16,7 +16,7 @@ use Rattle.formula_tree.specs.Remap.{EachReference}
 use Rattle.sheet_ops.proofs.Places.{place_of_at}
 use Rattle.sheet_ops.proofs.Renamed.{rename_same, rename_rename, references_weaker}
 use Rattle.sheet_grid.specs.Numbers.{lines_of}
-use Rattle.sheet_grid.specs.Kept.{NumberedAxis, Kept, axis, cell_meant, in_order, range_meant, content_meant, by_numbers, kept_size, slot_number, rec_number, cell_numbered, range_numbered, content_numbered}
+use Rattle.sheet_grid.specs.Kept.{NumberedAxis, KeptSheet, axis, cell_meant, in_order, range_meant, content_meant, by_numbers, kept_size, slot_number, rec_number, cell_numbered, range_numbered, content_numbered}
 
 pub slot_there : (slots recs : List ℕ) (p : ℕ) → length recs ≡ length slots → p < length slots → (slice_index_or (lines_of slots recs) p no_line).slot ≡ opening_id (slice_index slots p)
 slot_there [] recs p e h = absurd (omega arith)
@@ -89,7 +89,7 @@ module _ (A : NumberedAxis) (formed : AreApart (λ l. l.slot) (axis A).lines) (s
           lower m n j k = omega (arith, j, k)
       apart (inl e) = absurd (let clash : true ≡ false = sym (refl_test (slot_number A p) (slot_number A q) (ap (slot_number A) e)) ∙ t in cc)
 
-module _ (k : Kept) (ok : IsWellFormed (by_numbers k)) (rows : length k.rows.recs ≡ length k.rows.slots) (cols : length k.cols.recs ≡ length k.cols.slots) where
+module _ (k : KeptSheet) (ok : IsWellFormed (by_numbers k)) (rows : length k.rows.recs ≡ length k.rows.slots) (cols : length k.cols.recs ≡ length k.cols.slots) where
   pub row_rec : (p : ℕ) → p < length k.rows.slots → rec_at (axis k.rows) p ≡ opening_id (rec_number k.rows p)
   row_rec p h = rec_there k.rows.slots k.rows.recs p rows h
 

@@ -15,7 +15,7 @@ use Rattle.sheet_ops.specs.Effects.{effect_on}
 use Rattle.sheet_ops.proofs.Convergence.{rows_carried}
 use Rattle.sheet_ops.proofs.PlacedSteps.{placed-step}
 use Rattle.sheet_grid.specs.Numbers.{IsNumbered, lines_of, mark_of}
-use Rattle.sheet_grid.specs.Kept.{NumberedAxis, Kept, axis, by_numbers, recs_moved, IsKeptAxis, IsSheet}
+use Rattle.sheet_grid.specs.Kept.{NumberedAxis, KeptSheet, axis, by_numbers, recs_moved, IsKeptAxis, IsSheet}
 use Rattle.sheet_ops.proofs.Ids.{number_self}
 use Rattle.sheet_grid.proofs.Compared.{other_test}
 use Rattle.sheet_grid.proofs.InsertedNumbers.{Apart, numbered_apart, mark_none}
@@ -131,7 +131,7 @@ module _ (k : NumberedAxis) (sp rp : List ℕ) (ok : IsKeptAxis k sp rp) (moves 
     dead = λ id. nat_eq id.site 0 && mark_moved id.number i;
   }
 
-pub kept_moved : (k : Kept) → IsSheet k → (moves : List (ℕ × ℕ)) → IsPerm moves → MovesBelow (length k.rows.slots) moves → IsSheet (record k { rows = recs_moved k.rows moves })
+pub kept_moved : (k : KeptSheet) → IsSheet k → (moves : List (ℕ × ℕ)) → IsPerm moves → MovesBelow (length k.rows.slots) moves → IsSheet (record k { rows = recs_moved k.rows moves })
 kept_moved k (rs, rr, cs, cr, ok) moves perm below = (
   rs,
   map (image moves) rr,
@@ -147,7 +147,7 @@ kept_moved k (rs, rr, cs, cr, ok) moves perm below = (
 )
 
 -- the sheet by positions after rows moved is what the move says
-pub move_kept : (k : Kept) → IsSheet k → (moves : List (ℕ × ℕ)) → IsPerm moves → MovesBelow (length k.rows.slots) moves →
+pub move_kept : (k : KeptSheet) → IsSheet k → (moves : List (ℕ × ℕ)) → IsPerm moves → MovesBelow (length k.rows.slots) moves →
     placed (by_numbers (record k { rows = recs_moved k.rows moves })) ≡ effect_on (placed (by_numbers k)) (effect.Move moves)
 move_kept k (rs, rr, cs, cr, ok) moves perm below =
     let below' : MovesBelow (length (axis k.rows).lines) moves = subst (λ n. MovesBelow n moves) (sym (length-lines_of k.rows.slots k.rows.recs ok.rows.as_many)) below in

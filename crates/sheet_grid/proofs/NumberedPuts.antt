@@ -18,9 +18,9 @@ use Rattle.sheet_ops.specs.Fits.{CellFits, RangeFits, ContentFits, PutsFit, Effe
 use Rattle.sheet_ops.specs.Effects.{effect_on}
 use Rattle.sheet_ops.proofs.Renamed.{references_weaker}
 use Rattle.sheet_ops.proofs.PlacedSteps.{placed-step}
-use Rattle.sheet_grid.specs.Kept.{Kept, axis, content_meant, by_numbers, kept_size, IsKept, IsSheet}
+use Rattle.sheet_grid.specs.Kept.{KeptSheet, axis, content_meant, by_numbers, kept_size, IsKeptSheet, IsSheet}
 use Rattle.sheet_grid.specs.Rows.{put_kept, puts_kept, AllFit}
-use Rattle.sheet_grid.specs.Numbering.{IsInOrder, IsOrdered, put_numbered}
+use Rattle.sheet_grid.specs.Numbering.{HasOrderedCorners, HasOrderedRanges, put_numbered}
 use Rattle.sheet_grid.proofs.Compared.{other_test, turned_test}
 use Rattle.sheet_grid.proofs.Meanings.{row_rec, col_rec, ContentPlaced, content_same, length-lines_of}
 use Rattle.sheet_grid.proofs.WellFormed.{kept_formed, kept_inside}
@@ -30,7 +30,7 @@ pub AllFit-fit : (size : Size) (ps : List Put) → PutsFit size ps → AllFit si
 AllFit-fit size [] f = tt
 AllFit-fit size (p ∷ ps) f = (f.0, f.1, f.2, AllFit-fit size ps f.4)
 
-module _ (k : Kept) (rs rr cs cr : List ℕ) (ok : IsKept k rs rr cs cr) where
+module _ (k : KeptSheet) (rs rr cs cr : List ℕ) (ok : IsKeptSheet k rs rr cs cr) where
   abbrev X : IdSheet
   X = by_numbers k
 
@@ -59,27 +59,27 @@ module _ (k : Kept) (rs rr cs cr : List ℕ) (ok : IsKept k rs rr cs cr) where
   meant_puts cells [] = refl
   meant_puts cells (p ∷ ps) = meant_puts (put_kept cells p) ps ∙ ap (λ (f : LineId → LineId → IdContent). puts_at f (map put_meant ps)) (λ i a b. meant_put cells p a b i)
 
-  content_placed : (c : Content) → ContentFits (kept_size k) c → IsOrdered c → ContentPlaced k (kept_formed k rs rr cs cr ok) ok.rows.as_many ok.cols.as_many c
+  content_placed : (c : Content) → ContentFits (kept_size k) c → HasOrderedRanges c → ContentPlaced k (kept_formed k rs rr cs cr ok) ok.rows.as_many ok.cols.as_many c
   content_placed content.Empty f o = tt
   content_placed (content.Num z) f o = tt
   content_placed (content.Text t) f o = tt
   content_placed (content.Formula t) f o =
-      references_weaker (λ s. CellFits (kept_size k) s × Unit {0}) (λ s. RangeFits (kept_size k) s × IsInOrder s) (CellFits (kept_size k)) (λ s. RangeFits (kept_size k) s × IsInOrder s) (λ s g. g.0) (λ s g. g) t
-      (references_both (CellFits (kept_size k)) (RangeFits (kept_size k)) (λ (s : Spot). Unit {0}) IsInOrder t f o)
+      references_weaker (λ s. CellFits (kept_size k) s × Unit {0}) (λ s. RangeFits (kept_size k) s × HasOrderedCorners s) (CellFits (kept_size k)) (λ s. RangeFits (kept_size k) s × HasOrderedCorners s) (λ s g. g.0) (λ s g. g) t
+      (references_both (CellFits (kept_size k)) (RangeFits (kept_size k)) (λ (s : Spot). Unit {0}) HasOrderedCorners t f o)
 
-  put_same : (p : Put) → p.row < length k.rows.slots → p.col < length k.cols.slots → ContentFits (kept_size k) p.content → IsOrdered p.content → put_meant (put_numbered k.rows k.cols p) ≡ resolve_put X p
+  put_same : (p : Put) → p.row < length k.rows.slots → p.col < length k.cols.slots → ContentFits (kept_size k) p.content → HasOrderedRanges p.content → put_meant (put_numbered k.rows k.cols p) ≡ resolve_put X p
   put_same p r c f o = λ i. record {
     row = sym (row_rec k (kept_formed k rs rr cs cr ok) ok.rows.as_many ok.cols.as_many p.row r) i;
     col = sym (col_rec k (kept_formed k rs rr cs cr ok) ok.rows.as_many ok.cols.as_many p.col c) i;
     content = content_same k (kept_formed k rs rr cs cr ok) ok.rows.as_many ok.cols.as_many p.content (content_placed p.content f o) i;
   }
 
-  puts_same : (ps : List Put) → AllFit (kept_size k) ps → All (λ p. IsOrdered p.content) ps → map put_meant (map (put_numbered k.rows k.cols) ps) ≡ map (resolve_put X) ps
+  puts_same : (ps : List Put) → AllFit (kept_size k) ps → All (λ p. HasOrderedRanges p.content) ps → map put_meant (map (put_numbered k.rows k.cols) ps) ≡ map (resolve_put X) ps
   puts_same [] f o = refl
-  puts_same (p ∷ ps) f o = λ i. put_same p f.0 f.1 f.2 (All-head (λ (q : Put). IsOrdered q.content) p ps o) i ∷ puts_same ps f.3 (All-tail (λ (q : Put). IsOrdered q.content) p ps o) i
+  puts_same (p ∷ ps) f o = λ i. put_same p f.0 f.1 f.2 (All-head (λ (q : Put). HasOrderedRanges q.content) p ps o) i ∷ puts_same ps f.3 (All-tail (λ (q : Put). HasOrderedRanges q.content) p ps o) i
 
   -- the sheet by positions after a write by numbers is what the write says
-  pub write_kept : (ps : List Put) → EffectFits (kept_size k) (effect.Write ps) → All (λ p. IsOrdered p.content) ps →
+  pub write_kept : (ps : List Put) → EffectFits (kept_size k) (effect.Write ps) → All (λ p. HasOrderedRanges p.content) ps →
       placed (by_numbers (record k { cells = puts_kept k.cells (map (put_numbered k.rows k.cols) ps) })) ≡ effect_on (placed (by_numbers k)) (effect.Write ps)
   write_kept ps f o =
       let size : size_of X ≡ kept_size k = λ i. record { rows = length-lines_of k.rows.slots k.rows.recs ok.rows.as_many i; cols = length-lines_of k.cols.slots k.cols.recs ok.cols.as_many i } in
@@ -116,7 +116,7 @@ module _ (size : Size) where
       and_none true c d = refl
       and_none false c d = refl
 
-pub kept_written : (k : Kept) → IsSheet k → (nps : List Put) → AllFit (kept_size k) nps → IsSheet (record k { cells = puts_kept k.cells nps })
+pub kept_written : (k : KeptSheet) → IsSheet k → (nps : List Put) → AllFit (kept_size k) nps → IsSheet (record k { cells = puts_kept k.cells nps })
 kept_written k (rs, rr, cs, cr, ok) nps f = (
   rs,
   rr,

@@ -11,8 +11,9 @@ use Rattle.sheet_ops.specs.Lines.{AxisLine, opening_lines, opening_axis}
 use Rattle.sheet_ops.specs.Identity.{blank, opened}
 use Rattle.sheet_ops.specs.Placed.{placed}
 use Rattle.sheet_ops.specs.Fits.{ContentFits}
-use Rattle.sheet_grid.specs.Numbers.{IsNumbered, numbers_from, lines_of, mark_of}
-use Rattle.sheet_grid.specs.Values.{placed_in, grid_of, value_of, opening_sheet}
+use Rattle.sheet_ops.specs.Transforms.{numbers_from}
+use Rattle.sheet_grid.specs.Numbers.{IsNumbered, lines_of, mark_of}
+use Rattle.sheet_grid.specs.Values.{placed_in, grid_of, numbered_sheet_of, opening_sheet}
 use Rattle.sheet_grid.proofs.StoredCells.{length-held}
 use Rattle.sheet_grid.proofs.Grids.{nothing_from}
 use Rattle.sheet_grid.proofs.SheetValues.{placed_is}
@@ -126,7 +127,7 @@ module _ (size : Size) (maps : List (BTreeMap ℕ Content)) (e : map held maps �
       none_filled : ◌≡◌ {A = Option Content} None (Some content.Empty) → ⊥
       none_filled e = cc
 
-  pub opened_value : value_of (opening_kept size.rows) (opening_kept size.cols) maps ≡ opening_sheet size
+  pub opened_value : numbered_sheet_of (opening_kept size.rows) (opening_kept size.cols) maps ≡ opening_sheet size
   opened_value = λ i. record {
     rows = opening_kept size.rows;
     cols = opening_kept size.cols;
@@ -137,6 +138,6 @@ module _ (size : Size) (maps : List (BTreeMap ℕ Content)) (e : map held maps �
       no_contents cols zero = refl
       no_contents cols (suc count) = λ i. nothing_from 0 cols i ∷ no_contents cols count i
 
-  pub opened_placed : size.rows ≤ 1000 → size.cols ≤ 64 → placed_in (value_of (opening_kept size.rows) (opening_kept size.cols) maps) ≡ placed (opened size)
+  pub opened_placed : size.rows ≤ 1000 → size.cols ≤ 64 → placed_in (numbered_sheet_of (opening_kept size.rows) (opening_kept size.cols) maps) ≡ placed (opened size)
   opened_placed rows cols =
-      sym (placed_is (opening_kept size.rows) (opening_kept size.cols) maps (opened_tidy rows cols) (value_of (opening_kept size.rows) (opening_kept size.cols) maps) refl) ∙ opened_is
+      sym (placed_is (opening_kept size.rows) (opening_kept size.cols) maps (opened_tidy rows cols) (numbered_sheet_of (opening_kept size.rows) (opening_kept size.cols) maps) refl) ∙ opened_is

@@ -22,7 +22,7 @@ use Rattle.sheet_ops.specs.Lines.{has_number}
 use Rattle.sheet_ops.proofs.Members.{filter_same}
 use Rattle.sheet_grid.specs.Cells.{kind_of, is_empty, filled_places}
 use Rattle.sheet_grid.specs.Kept.{NumberedAxis, axis, content_meant, by_numbers, kept_of, IsSheet, IsTidy, rec_number, held, no_cells, cell_kept}
-use Rattle.sheet_grid.specs.Values.{NumberedSheet, placed_in, stored_at, value_of}
+use Rattle.sheet_grid.specs.Values.{NumberedSheet, placed_in, stored_at, numbered_sheet_of}
 use Rattle.sheet_grid.specs.Numbering.{lines_alone, content_placed}
 use Rattle.sheet_grid.proofs.Meanings.{rec_there, length-lines_of}
 use Rattle.sheet_grid.proofs.WellFormed.{kept_inside}
@@ -69,7 +69,7 @@ empty_placed rows cols (content.Num z) = refl
 empty_placed rows cols (content.Text t) = refl
 empty_placed rows cols (content.Formula t) = refl
 
-module _ (rows cols : NumberedAxis) (maps : Maps) (ok : IsTidy rows cols maps) (V : NumberedSheet) (is : value_of rows cols maps ≡ V) where
+module _ (rows cols : NumberedAxis) (maps : Maps) (ok : IsTidy rows cols maps) (V : NumberedSheet) (is : numbered_sheet_of rows cols maps ≡ V) where
   abbrev X : IdSheet
   X = by_numbers (kept_of rows cols maps)
 

@@ -13,10 +13,10 @@ use Rattle.sheet_ops.specs.declared.operation.Effect.TheVariants as effect
 use Rattle.sheet_ops.specs.Effects.{cells_written}
 use Rattle.sheet_ops.specs.Fits.{EffectFits}
 use Rattle.sheet_ops.specs.Placed.{placed}
-use Rattle.sheet_grid.specs.Kept.{NumberedAxis, Kept, by_numbers, kept_of, kept_size, IsSheet, IsTidy, held, no_cells, cell_kept, line_added, recs_moved}
+use Rattle.sheet_grid.specs.Kept.{NumberedAxis, KeptSheet, by_numbers, kept_of, kept_size, IsSheet, IsTidy, held, no_cells, cell_kept, line_added, recs_moved}
 use Rattle.sheet_grid.specs.Rows.{puts_kept, AddsNoEmpty, AllFit}
 use Rattle.sheet_grid.specs.Numbering.{put_numbered}
-use Rattle.sheet_grid.specs.Values.{NumberedSheet, stored_at, kept_in, placed_in, numbered_size, contents_from, grid_of, value_of, IsShaped, IsNumberedSheet, numbered_past}
+use Rattle.sheet_grid.specs.Values.{NumberedSheet, stored_at, kept_in, placed_in, numbered_size, contents_from, grid_of, numbered_sheet_of, IsShaped, IsNumberedSheet, numbered_past}
 use Rattle.sheet_grid.proofs.StoredCells.{length-held}
 use Rattle.sheet_grid.proofs.Grids.{same_grids, shape_puts, stored_puts, content_at, past_end, row_at, no_row_at, shape_grid, grid_row_more, grid_col_more}
 use Rattle.sheet_grid.proofs.MarkedLines.{marked}
@@ -28,10 +28,10 @@ module _ (rows cols : NumberedAxis) (maps : Maps) (ok : IsTidy rows cols maps) w
   rows_long : length (map held maps) ≡ length rows.slots
   rows_long = length-held maps ∙ ok.as_many
 
-  pub stored_is : (a b : ℕ) → stored_at (value_of rows cols maps).cells a b ≡ cell_kept maps a b
+  pub stored_is : (a b : ℕ) → stored_at (numbered_sheet_of rows cols maps).cells a b ≡ cell_kept maps a b
   stored_is a b = by_sides (cases_lt a (length rows.slots)) (cases_lt b (length cols.slots))
     where
-      by_sides : ((a < length rows.slots) ⊎ (length rows.slots ≤ a)) → ((b < length cols.slots) ⊎ (length cols.slots ≤ b)) → stored_at (value_of rows cols maps).cells a b ≡ cell_kept maps a b
+      by_sides : ((a < length rows.slots) ⊎ (length rows.slots ≤ a)) → ((b < length cols.slots) ⊎ (length cols.slots ≤ b)) → stored_at (numbered_sheet_of rows cols maps).cells a b ≡ cell_kept maps a b
       by_sides (inr h) c = ap (λ (r : List Content). slice_index_or r b content.Empty) (no_row_at (length cols.slots) (map held maps) a (let l = rows_long in omega arith)) ∙ sym (no_row rows cols maps ok a b h)
       by_sides (inl h) (inr j) =
           ap (λ (r : List Content). slice_index_or r b content.Empty) (row_at (length cols.slots) (map held maps) a (let l = rows_long in omega arith))
@@ -42,35 +42,35 @@ module _ (rows cols : NumberedAxis) (maps : Maps) (ok : IsTidy rows cols maps) w
           ∙ ap (λ (k : ℕ). unwrap_or (slice_index_or (map held maps) a no_cells k) content.Empty) (let z : 0 + b ≡ b = omega arith in z))
 
   -- so what is said of all that is kept is said of the value
-  pub value_is : kept_in (value_of rows cols maps) ≡ kept_of rows cols maps
+  pub value_is : kept_in (numbered_sheet_of rows cols maps) ≡ kept_of rows cols maps
   value_is = λ i. record { rows = rows; cols = cols; cells = λ a b. stored_is a b i }
 
-  value_shaped : IsShaped (length rows.slots) (length cols.slots) (value_of rows cols maps).cells
-  value_shaped = subst (λ (n : ℕ). IsShaped n (length cols.slots) (value_of rows cols maps).cells) rows_long (shape_grid (length cols.slots) (map held maps))
+  value_shaped : IsShaped (length rows.slots) (length cols.slots) (numbered_sheet_of rows cols maps).cells
+  value_shaped = subst (λ (n : ℕ). IsShaped n (length cols.slots) (numbered_sheet_of rows cols maps).cells) rows_long (shape_grid (length cols.slots) (map held maps))
 
-  value_whole : IsNumberedSheet (value_of rows cols maps)
+  value_whole : IsNumberedSheet (numbered_sheet_of rows cols maps)
   value_whole = record { kept = subst IsSheet (sym value_is) ok.kept; shaped = value_shaped }
 
 -- the value of the same lines with cells written
 value_written : (rows cols : NumberedAxis) (maps maps' : Maps) → IsTidy rows cols maps → IsTidy rows cols maps' → (nps : List Put) → AllFit (kept_size (kept_of rows cols maps)) nps → cell_kept maps' ≡ puts_kept (cell_kept maps) nps →
-    (value_of rows cols maps').cells ≡ cells_written (value_of rows cols maps).cells nps
+    (numbered_sheet_of rows cols maps').cells ≡ cells_written (numbered_sheet_of rows cols maps).cells nps
 value_written rows cols maps maps' ok ok' nps fit cells =
     let size : Size = kept_size (kept_of rows cols maps) in
     let shaped = value_shaped rows cols maps ok in
-    same_grids (length rows.slots) (length cols.slots) (value_of rows cols maps').cells (cells_written (value_of rows cols maps).cells nps) (value_shaped rows cols maps' ok')
-    (shape_puts size (value_of rows cols maps).cells shaped nps fit)
+    same_grids (length rows.slots) (length cols.slots) (numbered_sheet_of rows cols maps').cells (cells_written (numbered_sheet_of rows cols maps).cells nps) (value_shaped rows cols maps' ok')
+    (shape_puts size (numbered_sheet_of rows cols maps).cells shaped nps fit)
     (λ a b. stored_is rows cols maps' ok' a b
     ∙ ((λ i. cells i a b)
     ∙ (ap (λ (cs : ℕ → ℕ → Content). puts_kept cs nps a b) (λ i c d. sym (stored_is rows cols maps ok c d) i)
-    ∙ sym (stored_puts size (value_of rows cols maps).cells shaped nps fit a b))))
+    ∙ sym (stored_puts size (numbered_sheet_of rows cols maps).cells shaped nps fit a b))))
 
-module _ (rows cols : NumberedAxis) (maps : Maps) (ok : IsTidy rows cols maps) (V : NumberedSheet) (is : value_of rows cols maps ≡ V) where
+module _ (rows cols : NumberedAxis) (maps : Maps) (ok : IsTidy rows cols maps) (V : NumberedSheet) (is : numbered_sheet_of rows cols maps ≡ V) where
   pub whole : IsNumberedSheet V
   whole = subst IsNumberedSheet is (value_whole rows cols maps ok)
 
   -- the sheet by positions of all that is kept
   pub placed_is : placed (by_numbers (kept_of rows cols maps)) ≡ placed_in V
-  placed_is = ap (λ (k : Kept). placed (by_numbers k)) (sym (value_is rows cols maps ok)) ∙ ap placed_in is
+  placed_is = ap (λ (k : KeptSheet). placed (by_numbers k)) (sym (value_is rows cols maps ok)) ∙ ap placed_in is
 
   row_count : length V.rows.slots ≡ length rows.slots
   row_count = ap (λ (W : NumberedSheet). length W.rows.slots) (sym is)
@@ -89,13 +89,13 @@ module _ (rows cols : NumberedAxis) (maps : Maps) (ok : IsTidy rows cols maps) (
   -- ---- for each kind what holds of all that is kept, and the value
   pub written : {T E : Type 0} (result : Result T E) (maps' : Maps) (ps nps : List Put) → EffectFits (numbered_size V) (effect.Write ps) → nps ≡ map (put_numbered rows cols) ps →
       length maps' ≡ length maps → OnOk result (cell_kept maps' ≡ puts_kept (cell_kept maps) nps) → OnOk result (AddsNoEmpty (map held maps) (map held maps')) → OnErr result (map held maps' ≡ map held maps) →
-      IsTidy rows cols maps' × OnOk result (value_of rows cols maps' ≡ numbered_past V (effect.Write ps)) × OnErr result (value_of rows cols maps' ≡ V)
+      IsTidy rows cols maps' × OnOk result (numbered_sheet_of rows cols maps' ≡ numbered_past V (effect.Write ps)) × OnErr result (numbered_sheet_of rows cols maps' ≡ V)
   written (Ok t) maps' ps nps f e same cells empties back =
       let fit = numbered_fit ps nps f e in
       let tidy = tidy_written rows cols maps ok maps' nps fit same cells empties in (
         tidy,
         (λ i. record { rows = rows; cols = cols; cells = value_written rows cols maps maps' ok tidy nps fit cells i })
-            ∙ ((λ i. record { rows = rows; cols = cols; cells = cells_written (value_of rows cols maps).cells (e i) }) ∙ ap (λ (W : NumberedSheet). numbered_past W (effect.Write ps)) is),
+            ∙ ((λ i. record { rows = rows; cols = cols; cells = cells_written (numbered_sheet_of rows cols maps).cells (e i) }) ∙ ap (λ (W : NumberedSheet). numbered_past W (effect.Write ps)) is),
         tt,
       )
   written (Err x) maps' ps nps f e same cells empties back = (
@@ -105,7 +105,7 @@ module _ (rows cols : NumberedAxis) (maps : Maps) (ok : IsTidy rows cols maps) (
   )
 
   -- a copy holds the same cells
-  pub copied : (rows' cols' : NumberedAxis) (maps' : Maps) → rows' ≡ rows → cols' ≡ cols → map held maps' ≡ map held maps → IsTidy rows' cols' maps' × (value_of rows' cols' maps' ≡ V)
+  pub copied : (rows' cols' : NumberedAxis) (maps' : Maps) → rows' ≡ rows → cols' ≡ cols → map held maps' ≡ map held maps → IsTidy rows' cols' maps' × (numbered_sheet_of rows' cols' maps' ≡ V)
   copied rows' cols' maps' r c e = (
     subst (λ (k : NumberedAxis). IsTidy k cols' maps') (sym r) (subst (λ (k : NumberedAxis). IsTidy rows k maps') (sym c)
         (tidy_same rows cols maps ok maps' (sym (length-held maps') ∙ (ap (λ (hs : List (ℕ → Option Content)). length hs) e ∙ length-held maps)) e)),
@@ -113,30 +113,30 @@ module _ (rows cols : NumberedAxis) (maps : Maps) (ok : IsTidy rows cols maps) (
   )
 
   pub rows_moved : (moves : List (ℕ × ℕ)) → IsPerm moves → MovesBelow (length V.rows.slots) moves → (rows' : NumberedAxis) → rows' ≡ recs_moved rows moves →
-      IsTidy rows' cols maps × (value_of rows' cols maps ≡ numbered_past V (effect.Move moves))
+      IsTidy rows' cols maps × (numbered_sheet_of rows' cols maps ≡ numbered_past V (effect.Move moves))
   rows_moved moves perm below rows' e = (
     subst (λ (r : NumberedAxis). IsTidy r cols maps) (sym e) (tidy_moved rows cols maps ok moves perm (subst (λ n. MovesBelow n moves) row_count below)),
-    ap (λ (r : NumberedAxis). value_of r cols maps) e ∙ ap (λ (W : NumberedSheet). numbered_past W (effect.Move moves)) is,
+    ap (λ (r : NumberedAxis). numbered_sheet_of r cols maps) e ∙ ap (λ (W : NumberedSheet). numbered_past W (effect.Move moves)) is,
   )
 
   module _ (p : ℕ) where
-    pub row_marked : p < length V.rows.slots → (rows' : NumberedAxis) → rows' ≡ marked rows p → IsTidy rows' cols maps × (value_of rows' cols maps ≡ numbered_past V (effect.DelRow p))
+    pub row_marked : p < length V.rows.slots → (rows' : NumberedAxis) → rows' ≡ marked rows p → IsTidy rows' cols maps × (numbered_sheet_of rows' cols maps ≡ numbered_past V (effect.DelRow p))
     row_marked h rows' e = (
       subst (λ (r : NumberedAxis). IsTidy r cols maps) (sym e) (tidy_row_marked rows cols maps ok p (omega (arith, h, row_count))),
-      ap (λ (r : NumberedAxis). value_of r cols maps) e ∙ ap (λ (W : NumberedSheet). numbered_past W (effect.DelRow p)) is,
+      ap (λ (r : NumberedAxis). numbered_sheet_of r cols maps) e ∙ ap (λ (W : NumberedSheet). numbered_past W (effect.DelRow p)) is,
     )
 
-    pub col_marked : p < length V.cols.slots → (cols' : NumberedAxis) → cols' ≡ marked cols p → IsTidy rows cols' maps × (value_of rows cols' maps ≡ numbered_past V (effect.DelCol p))
+    pub col_marked : p < length V.cols.slots → (cols' : NumberedAxis) → cols' ≡ marked cols p → IsTidy rows cols' maps × (numbered_sheet_of rows cols' maps ≡ numbered_past V (effect.DelCol p))
     col_marked h cols' e = (
       subst (λ (r : NumberedAxis). IsTidy rows r maps) (sym e) (tidy_col_marked rows cols maps ok p (omega (arith, h, col_count))),
-      ap (λ (r : NumberedAxis). value_of rows r maps) e ∙ ap (λ (W : NumberedSheet). numbered_past W (effect.DelCol p)) is,
+      ap (λ (r : NumberedAxis). numbered_sheet_of rows r maps) e ∙ ap (λ (W : NumberedSheet). numbered_past W (effect.DelCol p)) is,
     )
 
-    pub col_inserted : p ≤ length V.cols.slots → length V.cols.slots < 16000 → (cols' : NumberedAxis) → cols' ≡ line_added cols p → IsTidy rows cols' maps × (value_of rows cols' maps ≡ numbered_past V (effect.InsCol p))
+    pub col_inserted : p ≤ length V.cols.slots → length V.cols.slots < 16000 → (cols' : NumberedAxis) → cols' ≡ line_added cols p → IsTidy rows cols' maps × (numbered_sheet_of rows cols' maps ≡ numbered_past V (effect.InsCol p))
     col_inserted h room cols' e =
         let h' : p ≤ length cols.slots = omega (arith, h, col_count) in (
           subst (λ (r : NumberedAxis). IsTidy rows r maps) (sym e) (tidy_col_added rows cols maps ok p h' (omega (arith, room, col_count))),
-          ap (λ (r : NumberedAxis). value_of rows r maps) e
+          ap (λ (r : NumberedAxis). numbered_sheet_of rows r maps) e
               ∙ ((λ i. record {
                 rows = rows;
                 cols = line_added cols p;
@@ -147,10 +147,10 @@ module _ (rows cols : NumberedAxis) (maps : Maps) (ok : IsTidy rows cols maps) (
         )
 
     pub row_inserted : p ≤ length V.rows.slots → length V.rows.slots < 16000 → (rows' : NumberedAxis) (maps' : Maps) (m : BTreeMap ℕ Content) → rows' ≡ line_added rows p → maps' ≡ maps ++ m ∷ [] → held m ≡ no_cells →
-        IsTidy rows' cols maps' × (value_of rows' cols maps' ≡ numbered_past V (effect.InsRow p))
+        IsTidy rows' cols maps' × (numbered_sheet_of rows' cols maps' ≡ numbered_past V (effect.InsRow p))
     row_inserted h room rows' maps' m e f empty = (
       subst (λ (r : NumberedAxis). IsTidy r cols maps') (sym e) (subst (λ (ms : Maps). IsTidy (line_added rows p) cols ms) (sym f)
           (tidy_row_added rows cols maps ok p (omega (arith, h, row_count)) (omega (arith, room, row_count)) m empty)),
-      (λ i. value_of (e i) cols (f i))
+      (λ i. numbered_sheet_of (e i) cols (f i))
           ∙ ((λ i. record { rows = line_added rows p; cols = cols; cells = grid_row_more (length cols.slots) maps m empty i }) ∙ ap (λ (W : NumberedSheet). numbered_past W (effect.InsRow p)) is),
     )

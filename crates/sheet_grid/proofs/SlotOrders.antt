@@ -12,7 +12,7 @@ use Rattle.sheet_ops.specs.Maps.{LineMap}
 use Rattle.sheet_ops.specs.Fits.{CellFits, RangeFits, ContentFits}
 use Rattle.sheet_ops.proofs.Renamed.{rename_same, references_weaker}
 use Rattle.sheet_ops.proofs.Carried.{Carries, slot_carried}
-use Rattle.sheet_grid.specs.Kept.{NumberedAxis, Kept, axis, cell_meant, range_meant, content_meant, by_numbers, kept_size}
+use Rattle.sheet_grid.specs.Kept.{NumberedAxis, KeptSheet, axis, cell_meant, range_meant, content_meant, by_numbers, kept_size}
 
 -- the slots with these numbers stand in the same order
 abbrev pub SameOrder : Axis → Axis → ℕ → Type 0
@@ -48,7 +48,7 @@ module _ (rows cols rows' cols' : Axis) (size : Size) (ro : SameOrder rows rows'
       (references_weaker (CellFits size) (RangeFits size) _ _ (λ s g. refl) range_kept t f))
 
 -- What is kept in other axes, in which the slots stand in the same order: no content means anything else.
-pub sheet_carried : (k : Kept) (R C : Axis) → ((a b : ℕ) → ContentFits (kept_size k) (k.cells a b)) → SameOrder (axis k.rows) R (length k.rows.slots) → SameOrder (axis k.cols) C (length k.cols.slots) →
+pub sheet_carried : (k : KeptSheet) (R C : Axis) → ((a b : ℕ) → ContentFits (kept_size k) (k.cells a b)) → SameOrder (axis k.rows) R (length k.rows.slots) → SameOrder (axis k.cols) C (length k.cols.slots) →
     (rows cols : NumberedAxis) → axis rows ≡ R → axis cols ≡ C → by_numbers (record { rows = rows; cols = cols; cells = k.cells }) ≡ record { rows = R; cols = C; cells = (by_numbers k).cells }
 sheet_carried k R C fits ro co rows cols e f =
     (λ i. record {

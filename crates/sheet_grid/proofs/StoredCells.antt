@@ -8,16 +8,16 @@ use Rattle.sheet_ops.specs.declared.content.Put.{Put}
 use Rattle.sheet_ops.proofs.Ids.{same_number, number_self}
 use Rattle.sheet_grid.specs.Kept.{held, no_cells, cell_kept}
 use Rattle.sheet_grid.proofs.Compared.{other_test}
-use Rattle.sheet_grid.specs.Rows.{with_cell, settled, cell_held, AddsNoEmpty, AreInRows, puts_kept}
+use Rattle.sheet_grid.specs.Rows.{with_column, settled, cell_held, AddsNoEmpty, AreInRows, puts_kept}
 use Rattle.std.proofs.lemmas.Bool.Decides.{nat_tests}
 
 -- rows with something else, or nothing, in one cell
 abbrev pub cell_set : List (ℕ → Option Content) → ℕ → ℕ → Option Content → List (ℕ → Option Content)
-cell_set rows row col what = slice_set rows row (with_cell (slice_index_or rows row no_cells) col what)
+cell_set rows row col what = slice_set rows row (with_column (slice_index_or rows row no_cells) col what)
 
 -- a row written is its cells written
 pub held-set : (rows : List (BTreeMap ℕ Content)) (row col : ℕ) (what : Option Content) (d new : BTreeMap ℕ Content) → row < length rows →
-    held new ≡ with_cell (held (slice_index_or rows row d)) col what → map held (slice_set rows row new) ≡ cell_set (map held rows) row col what
+    held new ≡ with_column (held (slice_index_or rows row d)) col what → map held (slice_set rows row new) ≡ cell_set (map held rows) row col what
 held-set [] row col what d new h e = absurd (omega arith)
 held-set (m ∷ ms) zero col what d new h e = λ i. e i ∷ map held ms
 held-set (m ∷ ms) (suc row) col what d new h e = ap (λ (rs : List (ℕ → Option Content)). held m ∷ rs) (held-set ms row col what d new (omega arith) e)
@@ -39,7 +39,7 @@ length-held (m ∷ ms) = ap suc (length-held ms)
 
 -- ---- one cell and the others
 module _ (col : ℕ) (what : Option Content) where
-  with_cell-or : (cells : ℕ → Option Content) (k : ℕ) → (with_cell cells col what k ≡ cells k) ⊎ ((k ≡ col) × (with_cell cells col what k ≡ what))
+  with_cell-or : (cells : ℕ → Option Content) (k : ℕ) → (with_column cells col what k ≡ cells k) ⊎ ((k ≡ col) × (with_column cells col what k ≡ what))
   with_cell-or cells k = by_test (nat_eq col k) refl
     where
       by_test : (t : Bool) → nat_eq col k ≡ t → (cond t what (cells k) ≡ cells k) ⊎ ((k ≡ col) × (cond t what (cells k) ≡ what))
@@ -73,7 +73,7 @@ cell_set-back (cells ∷ rows) zero col what = λ i. (λ k. back k i) ∷ rows
     by_test k true e = ap cells (same_number col k e)
     by_test k false e = refl
 
-    back : (k : ℕ) → with_cell (with_cell cells col what) col (cells col) k ≡ cells k
+    back : (k : ℕ) → with_column (with_column cells col what) col (cells col) k ≡ cells k
     back k = by_test k (nat_eq col k) refl
 cell_set-back (cells ∷ rows) (suc row) col what = ap (λ (rs : List (ℕ → Option Content)). cells ∷ rs) (cell_set-back rows row col what)
 
@@ -125,7 +125,7 @@ pub first_in_rows : (n : ℕ) (puts : List Put) (p : Put) (rest : List Put) → 
 first_in_rows n puts p rest e h = (rw e at h).0
 
 -- ---- one cell stored, then others written, then the one settled or put back
-module _ (rows : List (BTreeMap ℕ Content)) (p : Put) (what : Content) (d row : BTreeMap ℕ Content) (inside : p.row < length rows) (stored : held row ≡ with_cell (held (slice_index_or rows p.row d)) p.col (Some what)) where
+module _ (rows : List (BTreeMap ℕ Content)) (p : Put) (what : Content) (d row : BTreeMap ℕ Content) (inside : p.row < length rows) (stored : held row ≡ with_column (held (slice_index_or rows p.row d)) p.col (Some what)) where
   stored_first : map held (slice_set rows p.row row) ≡ cell_set (map held rows) p.row p.col (Some what)
   stored_first = held-set rows p.row p.col (Some what) d row inside stored
 
@@ -133,9 +133,9 @@ module _ (rows : List (BTreeMap ℕ Content)) (p : Put) (what : Content) (d row 
     here : held (slice_index_or after p.row e) p.col ≡ cell_held (map held after) p.row p.col
     here = λ i. held-index after p.row e there i p.col
 
-    module _ (settles : held last ≡ with_cell (held (slice_index_or after p.row e)) p.col (settled (held (slice_index_or after p.row e) p.col))) where
+    module _ (settles : held last ≡ with_column (held (slice_index_or after p.row e)) p.col (settled (held (slice_index_or after p.row e) p.col))) where
       third : map held (slice_set after p.row last) ≡ cell_set (map held after) p.row p.col (settled (cell_held (map held after) p.row p.col))
-      third = held-set after p.row p.col (settled (cell_held (map held after) p.row p.col)) e last there (settles ∙ ap (λ (w : Option Content). with_cell (held (slice_index_or after p.row e)) p.col (settled w)) here)
+      third = held-set after p.row p.col (settled (cell_held (map held after) p.row p.col)) e last there (settles ∙ ap (λ (w : Option Content). with_column (held (slice_index_or after p.row e)) p.col (settled w)) here)
 
       pub written_all : (rest : List Put) → what ≡ p.content → cell_kept after ≡ puts_kept (cell_kept (slice_set rows p.row row)) rest →
           cell_kept (slice_set after p.row last) ≡ puts_kept (cell_kept rows) (p ∷ rest)
@@ -181,7 +181,7 @@ module _ (rows : List (BTreeMap ℕ Content)) (p : Put) (what : Content) (d row 
           ∙ cell_set-here p.col (Some what) (map held rows) p.row (let l = length-held rows in omega (arith, l))) in
           rw is refl
 
-      pub all_back : (old : Option Content) → old ≡ held (slice_index_or rows p.row d) p.col → held last ≡ with_cell (held (slice_index_or after p.row e)) p.col old → map held (slice_set after p.row last) ≡ map held rows
+      pub all_back : (old : Option Content) → old ≡ held (slice_index_or rows p.row d) p.col → held last ≡ with_column (held (slice_index_or after p.row e)) p.col old → map held (slice_set after p.row last) ≡ map held rows
       all_back old was puts =
           held-set after p.row p.col old e last there puts
           ∙ ((λ i. cell_set ((refused ∙ stored_first) i) p.row p.col ((was ∙ (λ j. held-index rows p.row d inside j p.col)) i))

@@ -19,7 +19,7 @@ use Rattle.sheet_ops.proofs.Renamed.{references_weaker, references_after}
 use Rattle.sheet_grid.specs.Numbers.{IsNumbered}
 use Rattle.sheet_grid.specs.Kept.{NumberedAxis, rec_number, slot_number, cell_numbered, range_numbered, content_numbered}
 use Rattle.sheet_grid.specs.Rows.{AllFit}
-use Rattle.sheet_grid.specs.Numbering.{IsAxis, pair_at, numbering, IsInOrder, IsOrdered, put_numbered}
+use Rattle.sheet_grid.specs.Numbering.{IsAxis, pair_at, numbering, HasOrderedCorners, HasOrderedRanges, put_numbered}
 
 -- ---- an element that is there
 pub got : (xs : List ℕ) (i n : ℕ) → slice_get xs i ≡ Some n → (i < length xs) × (slice_index xs i ≡ n)
@@ -72,7 +72,7 @@ module _ {C R : Type 0} (P : C → Type 0) (Q : R → Type 0) (P' : C → Type 0
 
 -- a formula has its ranges in order
 mutual
-  ordered_tree : (t : Tree Spot Span) → IsWellFormed t → EachReference (λ s. Unit {0}) IsInOrder t
+  ordered_tree : (t : Tree Spot Span) → IsWellFormed t → EachReference (λ s. Unit {0}) HasOrderedCorners t
   ordered_tree (num n) w = tt
   ordered_tree (text t) w = tt
   ordered_tree (fault e) w = tt
@@ -82,11 +82,11 @@ mutual
   ordered_tree (bin op s t) w = (ordered_tree s w.0, ordered_tree t w.1)
   ordered_tree (call fun ts) w = ordered_trees ts w.1
 
-  ordered_trees : (ts : Trees Spot Span) → AreWellFormed ts → EachReferences (λ s. Unit {0}) IsInOrder ts
+  ordered_trees : (ts : Trees Spot Span) → AreWellFormed ts → EachReferences (λ s. Unit {0}) HasOrderedCorners ts
   ordered_trees none w = tt
   ordered_trees (more t ts) w = (ordered_tree t w.0, ordered_trees ts w.1)
 
-pub ordered_formula : (t : Tree Spot Span) → IsFormula t → EachReference (λ s. Unit {0}) IsInOrder t
+pub ordered_formula : (t : Tree Spot Span) → IsFormula t → EachReference (λ s. Unit {0}) HasOrderedCorners t
 ordered_formula t f = ordered_tree t f.formed
 
 -- ---- numbers
@@ -174,11 +174,11 @@ put_more rows cols ps i p q h is same done before =
     ∙ (sym (map-append (put_numbered rows cols) (take i ps) (slice_index_or ps i p ∷ []))
     ∙ ap (map (put_numbered rows cols)) (sym (take_more ps i p h)))
 
-pub ordered_more : (ps : List Put) (i : ℕ) (p : Put) → i < length ps → p ≡ slice_index_or ps i p → IsOrdered p.content → All (λ (q : Put). IsOrdered q.content) (take i ps) → All (λ (q : Put). IsOrdered q.content) (take (i + 1) ps)
+pub ordered_more : (ps : List Put) (i : ℕ) (p : Put) → i < length ps → p ≡ slice_index_or ps i p → HasOrderedRanges p.content → All (λ (q : Put). HasOrderedRanges q.content) (take i ps) → All (λ (q : Put). HasOrderedRanges q.content) (take (i + 1) ps)
 ordered_more ps i p h is o before =
-    subst (λ (qs : List Put). All (λ (q : Put). IsOrdered q.content) qs) (sym (take_more ps i p h))
-    (All-append (λ (q : Put). IsOrdered q.content) (take i ps) (slice_index_or ps i p ∷ []) before (one (slice_index_or ps i p) (subst (λ (q : Put). IsOrdered q.content) is o)))
+    subst (λ (qs : List Put). All (λ (q : Put). HasOrderedRanges q.content) qs) (sym (take_more ps i p h))
+    (All-append (λ (q : Put). HasOrderedRanges q.content) (take i ps) (slice_index_or ps i p ∷ []) before (one (slice_index_or ps i p) (subst (λ (q : Put). HasOrderedRanges q.content) is o)))
   where
-    one : (q : Put) → IsOrdered q.content → All (λ (r : Put). IsOrdered r.content) (q ∷ [])
+    one : (q : Put) → HasOrderedRanges q.content → All (λ (r : Put). HasOrderedRanges r.content) (q ∷ [])
     one q o zero d h = o
     one q o (suc j) d h = absurd (omega arith)

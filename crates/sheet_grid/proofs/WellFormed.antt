@@ -19,7 +19,7 @@ use Rattle.sheet_ops.proofs.Places.{apart_from, avoids_from, has_place, id_at}
 use Rattle.sheet_ops.proofs.Renamed.{rename_rename, references_after}
 use Rattle.sheet_ops.specs.Fits.{GridFits}
 use Rattle.sheet_grid.specs.Numbers.{IsNumbered}
-use Rattle.sheet_grid.specs.Kept.{NumberedAxis, Kept, axis, cell_meant, range_meant, content_meant, by_numbers, kept_size, line_added, IsKeptAxis, IsKept}
+use Rattle.sheet_grid.specs.Kept.{NumberedAxis, KeptSheet, axis, cell_meant, range_meant, content_meant, by_numbers, kept_size, line_added, IsKeptAxis, IsKeptSheet}
 use Rattle.sheet_grid.proofs.InsertedNumbers.{mark_none}
 use Rattle.sheet_grid.proofs.Meanings.{slot_there, rec_there, length-lines_of}
 
@@ -80,7 +80,7 @@ module _ (k : NumberedAxis) (sp rp : List ℕ) (ok : IsKeptAxis k sp rp) where
       let at : id_at (λ l. l.rec) (axis k).lines (slice_index rp j) ≡ opening_id j = rec_there k.slots k.recs (slice_index rp j) ok.as_many below ∙ ap opening_id f.1 in
       subst (λ (a : LineId). rec_place (axis k) a < length (axis k).lines) at (has_place (λ l. l.rec) (axis k).lines (slice_index rp j) (omega (arith, below, lines_long)))
 
-module _ (k : Kept) (rs rr cs cr : List ℕ) (ok : IsKept k rs rr cs cr) where
+module _ (k : KeptSheet) (rs rr cs cr : List ℕ) (ok : IsKeptSheet k rs rr cs cr) where
   pub kept_formed : IsWellFormed (by_numbers k)
   kept_formed = record { rows = axis_formed k.rows rs rr ok.rows; cols = axis_formed k.cols cs cr ok.cols }
 

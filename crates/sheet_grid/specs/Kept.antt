@@ -14,14 +14,15 @@ use Rattle.sheet_ops.specs.LineIds.{opening_id}
 use Rattle.sheet_ops.specs.Lines.{Axis, slot_place}
 use Rattle.sheet_ops.specs.Fits.{ContentFits}
 use Rattle.sheet_ops.specs.Identity.{IdCell, IdRange, IdContent, blank, number, text, formula, IdSheet}
-use Rattle.sheet_grid.specs.Numbers.{IsNumbered, axis_of, numbers_from}
+use Rattle.sheet_ops.specs.Transforms.{numbers_from}
+use Rattle.sheet_grid.specs.Numbers.{IsNumbered, axis_of}
 
 pub record NumberedAxis : Type 0 where
   pub slots : List ℕ
   pub recs : List ℕ
   pub marks : List Bool
 
-pub record Kept : Type 0 where
+pub record KeptSheet : Type 0 where
   pub rows : NumberedAxis
   pub cols : NumberedAxis
   pub cells : ℕ → ℕ → Content
@@ -56,7 +57,7 @@ module _ (rows cols : Axis) where
   content_meant (content.Text t) = text t
   content_meant (content.Formula t) = formula (rename_tree cell_meant range_meant t)
 
-abbrev pub by_numbers : Kept → IdSheet
+abbrev pub by_numbers : KeptSheet → IdSheet
 by_numbers k = record {
   rows = axis k.rows;
   cols = axis k.cols;
@@ -64,7 +65,7 @@ by_numbers k = record {
 }
 
 -- how many lines ever came
-abbrev pub kept_size : Kept → Size
+abbrev pub kept_size : KeptSheet → Size
 kept_size k = record { rows = length k.rows.slots; cols = length k.cols.slots }
 
 -- a line more, with the next number
@@ -112,7 +113,7 @@ pub record IsKeptAxis (k : NumberedAxis) (slot_places rec_places : List ℕ) : T
   pub as_many : length k.recs ≡ length k.slots
   pub marked : length k.marks ≡ length k.recs
 
-pub record IsKept (k : Kept) (row_slots row_recs col_slots col_recs : List ℕ) : Type 0 where
+pub record IsKeptSheet (k : KeptSheet) (row_slots row_recs col_slots col_recs : List ℕ) : Type 0 where
   pub rows : IsKeptAxis k.rows row_slots row_recs
   pub cols : IsKeptAxis k.cols col_slots col_recs
   pub fits : (a b : ℕ) → ContentFits (kept_size k) (k.cells a b)
@@ -129,12 +130,12 @@ no_cells col = None
 abbrev pub cell_kept : List (BTreeMap ℕ Content) → ℕ → ℕ → Content
 cell_kept rows a b = unwrap_or (slice_index_or (map held rows) a no_cells b) content.Empty
 
-abbrev pub kept_of : NumberedAxis → NumberedAxis → List (BTreeMap ℕ Content) → Kept
+abbrev pub kept_of : NumberedAxis → NumberedAxis → List (BTreeMap ℕ Content) → KeptSheet
 kept_of rows cols maps = record { rows = rows; cols = cols; cells = cell_kept maps }
 
 -- all of it, for some positions by number
-abbrev pub IsSheet : Kept → Type 0
-IsSheet k = (row_slots row_recs col_slots col_recs : List ℕ) × IsKept k row_slots row_recs col_slots col_recs
+abbrev pub IsSheet : KeptSheet → Type 0
+IsSheet k = (row_slots row_recs col_slots col_recs : List ℕ) × IsKeptSheet k row_slots row_recs col_slots col_recs
 
 -- and there is a map for each row, in which an empty cell has no key
 pub record IsTidy (rows cols : NumberedAxis) (maps : List (BTreeMap ℕ Content)) : Type 0 where

@@ -31,12 +31,12 @@ numbering rows cols = record {
 }
 
 -- the corners of each range are in order
-abbrev pub IsInOrder : Span → Type 0
-IsInOrder s = (s.top ≤ s.bottom) × (s.left ≤ s.right)
+abbrev pub HasOrderedCorners : Span → Type 0
+HasOrderedCorners s = (s.top ≤ s.bottom) × (s.left ≤ s.right)
 
-abbrev pub IsOrdered : Content → Type 0
-IsOrdered (content.Formula t) = EachReference (λ s. Unit {0}) IsInOrder t
-IsOrdered c = Unit {0}
+abbrev pub HasOrderedRanges : Content → Type 0
+HasOrderedRanges (content.Formula t) = EachReference (λ s. Unit {0}) HasOrderedCorners t
+HasOrderedRanges c = Unit {0}
 
 abbrev pub put_numbered : NumberedAxis → NumberedAxis → Put → Put
 put_numbered rows cols p = record { row = rec_number rows p.row; col = rec_number cols p.col; content = content_numbered rows cols p.content }
@@ -70,7 +70,7 @@ content_placed rows cols c = locate_content (lines_alone rows cols) (content_mea
 
 -- the corners of each range that an effect writes are in order
 abbrev pub IsOrderedWrite : Effect → Type 0
-IsOrderedWrite (effect.Write ps) = All (λ p. IsOrdered p.content) ps
+IsOrderedWrite (effect.Write ps) = All (λ p. HasOrderedRanges p.content) ps
 IsOrderedWrite (effect.InsRow p) = Unit {0}
 IsOrderedWrite (effect.InsCol p) = Unit {0}
 IsOrderedWrite (effect.DelRow p) = Unit {0}

@@ -1,5 +1,5 @@
 -- Lines under numbers that never change: the first line that ever came has the number 0, the next one 1, and so on.
-use Rattle.std.specs.Prelude.{ℕ, zero, suc, ◌≡◌, ◌<◌, ◌≤◌, ◌&&◌, nat_eq, Bool, false, if◌then◌else◌, List, [], ◌∷◌, length, slice_index}
+use Rattle.std.specs.Prelude.{ℕ, ◌≡◌, ◌<◌, ◌≤◌, ◌&&◌, nat_eq, Bool, false, if◌then◌else◌, List, [], ◌∷◌, length, slice_index}
 use Rattle.sheet_ops.specs.LineIds.{opening_id}
 use Rattle.sheet_ops.specs.Lines.{AxisLine, Axis}
 
@@ -9,11 +9,6 @@ pub record IsNumbered (numbers places : List ℕ) : Type 0 where
   pub as_many : length places ≡ length numbers
   pub back : (p : ℕ) → p < length numbers → (slice_index numbers p < length numbers) × (slice_index places (slice_index numbers p) ≡ p)
   pub forth : (k : ℕ) → k < length numbers → (slice_index places k < length numbers) × (slice_index numbers (slice_index places k) ≡ k)
-
--- so many numbers in order
-abbrev pub numbers_from : ℕ → ℕ → List ℕ
-numbers_from first zero = []
-numbers_from first (suc count) = first ∷ numbers_from (suc first) count
 
 -- the lines by identity, the j-th line that came with the name of the opening line j
 abbrev pub lines_of : List ℕ → List ℕ → List AxisLine

@@ -8,8 +8,8 @@ use Rattle.sheet_ops.specs.Fits.{ContentFits}
 use Rattle.sheet_grid.specs.Kept.{no_cells}
 
 -- with something else, or nothing, under one column
-abbrev pub with_cell : (ℕ → Option Content) → ℕ → Option Content → ℕ → Option Content
-with_cell cells col what k = if nat_eq col k then what else cells k
+abbrev pub with_column : (ℕ → Option Content) → ℕ → Option Content → ℕ → Option Content
+with_column cells col what k = if nat_eq col k then what else cells k
 
 -- an empty content is kept as none
 abbrev pub settled : Option Content → Option Content

@@ -8,7 +8,7 @@ use Rattle.sheet_ops.specs.declared.operation.Effect.{Effect}
 use Rattle.sheet_ops.specs.declared.operation.Effect.TheVariants as effect
 use Rattle.sheet_ops.specs.Placed.{PlacedSheet, placed}
 use Rattle.sheet_ops.specs.Effects.{cells_written}
-use Rattle.sheet_grid.specs.Kept.{NumberedAxis, Kept, by_numbers, kept_size, line_added, recs_moved, opening_kept, held, IsSheet}
+use Rattle.sheet_grid.specs.Kept.{NumberedAxis, KeptSheet, by_numbers, kept_size, line_added, recs_moved, opening_kept, held, IsSheet}
 use Rattle.sheet_grid.specs.Numbering.{put_numbered}
 
 -- contents by the number of the row's record and the column's number
@@ -20,7 +20,7 @@ pub record NumberedSheet : Type 0 where
 abbrev pub stored_at : List (List Content) → ℕ → ℕ → Content
 stored_at cells rec col = slice_index_or (slice_index_or cells rec []) col content.Empty
 
-abbrev pub kept_in : NumberedSheet → Kept
+abbrev pub kept_in : NumberedSheet → KeptSheet
 kept_in V = record { rows = V.rows; cols = V.cols; cells = stored_at V.cells }
 
 -- the sheet by positions
@@ -43,8 +43,8 @@ contents_from cells first (suc count) = unwrap_or (cells first) content.Empty �
 abbrev pub grid_of : ℕ → List (ℕ → Option Content) → List (List Content)
 grid_of cols rows = map (λ cells. contents_from cells 0 cols) rows
 
-abbrev pub value_of : NumberedAxis → NumberedAxis → List (BTreeMap ℕ Content) → NumberedSheet
-value_of rows cols maps = record { rows = rows; cols = cols; cells = grid_of (length cols.slots) (map held maps) }
+abbrev pub numbered_sheet_of : NumberedAxis → NumberedAxis → List (BTreeMap ℕ Content) → NumberedSheet
+numbered_sheet_of rows cols maps = record { rows = rows; cols = cols; cells = grid_of (length cols.slots) (map held maps) }
 
 -- so many rows of so many contents
 abbrev pub IsShaped : ℕ → ℕ → List (List Content) → Type 0

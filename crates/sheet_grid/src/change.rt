@@ -6,7 +6,7 @@ ghost use Rattle.sheet_ops.specs.Effects.{effect_on, StepsTo};
 ghost use Rattle.sheet_ops.specs.Fits.{EffectFits, HasRoom};
 ghost use Rattle.sheet_ops.specs.Identity.{opened};
 ghost use Rattle.sheet_ops.specs.declared.operation.Effect.TheVariants as effect;
-ghost use Rattle.sheet_grid.specs.Numbering.{IsOrdered, IsOrderedWrite};
+ghost use Rattle.sheet_grid.specs.Numbering.{HasOrderedRanges, IsOrderedWrite};
 ghost use Rattle.sheet_grid.specs.Values.{placed_in, numbered_past, numbered_size, opening_sheet};
 
 use crate::Sheet;
@@ -93,7 +93,7 @@ impl Sheet {
     fn write(&mut self, puts: &[Put]) -> Result<(), Memory>
         requires { EffectFits (numbered_size self.old) (effect.Write puts.now) }
         ensures ok { OnOk result (self.new ≡ numbered_past self.old (effect.Write puts.now)) }
-        ensures ordered { OnOk result (All (λ p. IsOrdered p.content) puts.now) }
+        ensures ordered { OnOk result (All (λ p. HasOrderedRanges p.content) puts.now) }
         ensures err { OnErr result (self.new ≡ self.old) }
     {
         let numbered = puts_numbered(*self.cells.allocator(), &self.rows, &self.cols, puts)?;

@@ -43,13 +43,13 @@ impl Model for Sheet {
     ghost use Rattle.std.specs.Coded.{codes};
     ghost use Rattle.sheet_ops.specs.contracts.content.Content as content;
     ghost use Rattle.sheet_grid.specs.Kept.{IsTidy};
-    ghost use Rattle.sheet_grid.specs.Values.{NumberedSheet, value_of};
+    ghost use Rattle.sheet_grid.specs.Values.{NumberedSheet, numbered_sheet_of};
 
     ghost Value = { NumberedSheet };
 
     ghost coded = { Prim.hlevel (codes, content.the_row.coded) };
 
-    ghost view = { λ s. value_of s.rows s.cols s.cells.items };
+    ghost view = { λ s. numbered_sheet_of s.rows s.cols s.cells.items };
 
     ghost invariant = { λ s. IsTidy s.rows s.cols s.cells.items };
 }

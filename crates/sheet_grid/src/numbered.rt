@@ -1,6 +1,7 @@
 ghost use Rattle.std.specs.Prelude.{◌≡◌, ◌<◌, ◌≤◌, ◌^◌, ◌-◌, ◌↔◌, All, IfOk, OnOk, OnErr, IfSome, IsNone, length, insert, map, slice_index, slice_get};
 ghost use Rattle.marked_lines.specs.Moves.{after_insertion, image, permute, IsPerm, MovesBelow};
-ghost use Rattle.sheet_grid.specs.Numbers.{IsNumbered, numbers_from};
+ghost use Rattle.sheet_ops.specs.Transforms.{numbers_from};
+ghost use Rattle.sheet_grid.specs.Numbers.{IsNumbered};
 
 use marked_lines::Perm;
 use ss_base::Memory;

@@ -4,7 +4,7 @@ ghost use Rattle.formula_tree.specs.Remap.{mapped};
 ghost use Rattle.sheet_ops.specs.Fits.{ContentFits};
 ghost use Rattle.sheet_grid.specs.Kept.{content_numbered};
 ghost use Rattle.sheet_grid.specs.Rows.{AllFit};
-ghost use Rattle.sheet_grid.specs.Numbering.{IsAxis, IsOrdered, numbering, placing, content_placed, put_numbered};
+ghost use Rattle.sheet_grid.specs.Numbering.{IsAxis, HasOrderedRanges, numbering, placing, content_placed, put_numbered};
 
 use crate::axis::AxisLines;
 use formula_tree::{Formula, Remap, rename};
@@ -127,7 +127,7 @@ pub fn content_numbered(
     requires cols { IsAxis cols.now }
     requires fits { ContentFits (record { rows = length rows.now.slots; cols = length cols.now.slots }) content.now }
     ensures value { IfOk result (λ c. c ≡ content_numbered rows.now cols.now content.now) }
-    ensures ordered { IfOk result (λ c. IsOrdered content.now) }
+    ensures ordered { IfOk result (λ c. HasOrderedRanges content.now) }
 {
     match content {
         Content::Empty => Ok(Content::Empty),
@@ -151,7 +151,7 @@ pub fn puts_numbered(
     requires cols { IsAxis cols.now }
     requires fit { AllFit (record { rows = length rows.now.slots; cols = length cols.now.slots }) puts.now }
     ensures value { IfOk result (λ ps. ps.items ≡ map (put_numbered rows.now cols.now) puts.now) }
-    ensures ordered { IfOk result (λ ps. All (λ p. IsOrdered p.content) puts.now) }
+    ensures ordered { IfOk result (λ ps. All (λ p. HasOrderedRanges p.content) puts.now) }
 {
     let mut numbered = Vec::with_capacity(alloc, puts.len())?;
     for put in puts {

@@ -4,7 +4,7 @@ ghost use Rattle.std.specs.Ordering.{nat_cmp};
 ghost use Rattle.sheet_ops.specs.declared.content.Content.TheVariants as content;
 ghost use Rattle.sheet_grid.specs.Cells.{kind_of, formula_of};
 ghost use Rattle.sheet_grid.specs.Kept.{held, no_cells};
-ghost use Rattle.sheet_grid.specs.Rows.{with_cell, settled};
+ghost use Rattle.sheet_grid.specs.Rows.{with_column, settled};
 
 use crate::Kind;
 use formula_tree::Formula;
@@ -87,7 +87,7 @@ pub fn store(
     what: Content,
 ) -> Result<Option<Content>, Memory>
     ensures old { IfOk result (λ old. old ≡ held row.old col) }
-    ensures ok { IfOk result (λ old. held row.new ≡ with_cell (held row.old) col (Some what)) }
+    ensures ok { IfOk result (λ old. held row.new ≡ with_column (held row.old) col (Some what)) }
     ensures err { OnErr result (held row.new ≡ held row.old) }
 {
     Ok(row.insert(col, what)?)
@@ -96,7 +96,7 @@ pub fn store(
 /// Puts back what stood at a column whose key is there.
 pub fn put_back(row: &mut BTreeMap<u32, Content>, col: u32, old: Option<Content>)
     requires { IsSome (held row.old col) }
-    ensures { held row.new ≡ with_cell (held row.old) col old }
+    ensures { held row.new ≡ with_column (held row.old) col old }
 {
     match old {
         Some(what) => match row.insert(col, what) {
@@ -111,7 +111,7 @@ pub fn put_back(row: &mut BTreeMap<u32, Content>, col: u32, old: Option<Content>
 
 /// Takes the key of a column out where its content is empty.
 pub fn settle(row: &mut BTreeMap<u32, Content>, col: u32)
-    ensures { held row.new ≡ with_cell (held row.old) col (settled (held row.old col)) }
+    ensures { held row.new ≡ with_column (held row.old) col (settled (held row.old col)) }
 {
     if let Some(Content::Empty) = row.get(&col) {
         let _ = row.remove(&col);

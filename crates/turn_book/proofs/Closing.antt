@@ -14,14 +14,14 @@ use Rattle.atomic_table.specs.Seated.{TableId}
 use Rattle.atomic_table.proofs.Lists.{set_else}
 use Rattle.turn_book.specs.declared.kept.Made.{Made}
 use Rattle.turn_book.specs.declared.turns.Standing.{Standing}
-use Rattle.turn_book.specs.declared.turns.View.{View}
+use Rattle.turn_book.specs.declared.turns.Knowledge.{Knowledge}
 use Rattle.turn_book.specs.Passes.{BookOf, PassOf, AreAll}
 use Rattle.turn_book.specs.Turns.{IsPassIn, AtHome, IsOut, HasOneHistory, Ends, resting, holding, spent, pass_of, numbers_of}
 use Rattle.turn_book.proofs.Numbers.{nums, same_right, seat_first}
 
 module _ {S I : Type 0} (opening_of : S → List ℕ) (history_of : S → List (Made I)) (opening : List ℕ) (passes : ℕ) where
   -- no other seat has a pass
-  no_others : (id : ℕ) (standings : List (Standing I)) (s : State (Option S) (View I)) (kept : HasOneHistory opening_of history_of opening passes s) → get_elem? s.views id ≡ some (resting standings) → length standings ≡ passes →
+  no_others : (id : ℕ) (standings : List (Standing I)) (s : State (Option S) (Knowledge I)) (kept : HasOneHistory opening_of history_of opening passes s) → get_elem? s.views id ≡ some (resting standings) → length standings ≡ passes →
       numbers_of (slice_set s.views id spent) ≡ []
   no_others id standings s kept there all =
       let others : List ℕ = numbers_of (slice_set s.views id spent) in
@@ -31,14 +31,14 @@ module _ {S I : Type 0} (opening_of : S → List ℕ) (history_of : S → List (
       let count = length_permutation (range_with_len 0 passes) (numbers ++ others) given in
       nil_from_length others (omega (arith, length-append numbers others, length-map standings (λ (p : Standing I). p.number), length-range_with_len 0 passes))
 
-  pub all_given : (id : ℕ) (standings : List (Standing I)) (s : State (Option S) (View I)) (kept : HasOneHistory opening_of history_of opening passes s) → get_elem? s.views id ≡ some (resting standings) → length standings ≡ passes →
+  pub all_given : (id : ℕ) (standings : List (Standing I)) (s : State (Option S) (Knowledge I)) (kept : HasOneHistory opening_of history_of opening passes s) → get_elem? s.views id ≡ some (resting standings) → length standings ≡ passes →
       IsPermutation (range_with_len 0 passes) (map (λ (p : Standing I). p.number) standings)
   all_given id standings s kept there all =
       same_right (range_with_len 0 passes) (nums (resting standings) ++ numbers_of (slice_set s.views id spent)) (nums (resting standings))
       (ap (λ (ns : List ℕ). nums (resting standings) ++ ns) (no_others id standings s kept there all) ∙ append-nil (nums (resting standings)))
       (IsPermutation-trans (range_with_len 0 passes) (numbers_of s.views) (nums (resting standings) ++ numbers_of (slice_set s.views id spent)) kept.given (seat_first s.views id (resting standings) there))
 
-  at_home : (id : ℕ) (standings : List (Standing I)) (s : State (Option S) (View I)) (kept : HasOneHistory opening_of history_of opening passes s) → get_elem? s.views id ≡ some (resting standings) → length standings ≡ passes →
+  at_home : (id : ℕ) (standings : List (Standing I)) (s : State (Option S) (Knowledge I)) (kept : HasOneHistory opening_of history_of opening passes s) → get_elem? s.views id ≡ some (resting standings) → length standings ≡ passes →
       AtHome opening_of history_of opening kept.hist s
   at_home id standings s kept there all = by_place kept.place
     where
@@ -46,14 +46,14 @@ module _ {S I : Type 0} (opening_of : S → List ℕ) (history_of : S → List (
       by_place (inl h) = h
       by_place (inr o) =
           let apart : o.who ≢ id = λ e.
-          (let clash : Some kept.hist ≡ None = ap (λ (v : View I). v.found) (some-injective (holding o.standing kept.hist) (resting standings) (sym o.there ∙ (ap (get_elem? s.views) e ∙ there))) in cc) in
+          (let clash : Some kept.hist ≡ None = ap (λ (v : Knowledge I). v.found) (some-injective (holding o.standing kept.hist) (resting standings) (sym o.there ∙ (ap (get_elem? s.views) e ∙ there))) in cc) in
           let first = seat_first (slice_set s.views id spent) o.who (holding o.standing kept.hist) (set_else s.views id o.who spent apart ∙ o.there) in
           let count = length_permutation (numbers_of (slice_set s.views id spent)) (o.standing.number ∷ numbers_of (slice_set (slice_set s.views id spent) o.who spent)) first in
           let none = ap (λ (ns : List ℕ). length ns) (no_others id standings s kept there all) in
           absurd (omega arith)
 
   -- the value at home is the state, which all passes know
-  pub ends : (id : ℕ) (standings : List (Standing I)) (v : View I) (s : State (Option S) (View I)) → Seen (HasOneHistory opening_of history_of opening passes) id v s → v ≡ resting standings → length standings ≡ passes →
+  pub ends : (id : ℕ) (standings : List (Standing I)) (v : Knowledge I) (s : State (Option S) (Knowledge I)) → Seen (HasOneHistory opening_of history_of opening passes) id v s → v ≡ resting standings → length standings ≡ passes →
       (state : S) × (get_elem? s.homes 0 ≡ some (some (Some state))) × Ends opening_of history_of opening passes standings state
   ends id standings v s (kept, there) is all =
       let here : get_elem? s.views id ≡ some (resting standings) = there ∙ ap some is in
@@ -69,7 +69,7 @@ module _ {S I : Type 0} (opening_of : S → List ℕ) (history_of : S → List (
       )
 
   -- what a closed table has in its slot
-  pub ended : (id : ℕ) (v : View I) (words : List ℕ) (slots : List (Option S)) (taken : Option S) → v ≡ resting v.standings → length v.standings ≡ passes →
+  pub ended : (id : ℕ) (v : Knowledge I) (words : List ℕ) (slots : List (Option S)) (taken : Option S) → v ≡ resting v.standings → length v.standings ≡ passes →
       Final (Seen (HasOneHistory opening_of history_of opening passes) id v) words slots → get_elem? slots 0 ≡ some taken → (state : S) × (taken ≡ Some state) × Ends opening_of history_of opening passes v.standings state
   ended id v words slots taken is all (s, seen, words_is, deep, homes) there =
       let (state, home, e) = ends id v.standings v s seen is all in

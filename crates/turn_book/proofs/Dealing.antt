@@ -14,7 +14,7 @@ use Rattle.atomic_table.specs.Table as table
 use Rattle.atomic_table.specs.Seated.{TableId}
 use Rattle.turn_book.specs.declared.kept.Made.{Made}
 use Rattle.turn_book.specs.declared.turns.Standing.{Standing}
-use Rattle.turn_book.specs.declared.turns.View.{View}
+use Rattle.turn_book.specs.declared.turns.Knowledge.{Knowledge}
 use Rattle.turn_book.specs.Passes.{PassOf}
 use Rattle.turn_book.specs.Turns.{IsPassIn, HasOneHistory, newcomer, newcomers, resting, both_views, without_first, first_alone, standing_of, pass_of, numbers_of}
 use Rattle.turn_book.proofs.Numbers.{same_right}
@@ -30,7 +30,7 @@ module _ (I : Type 0) (opening : List ℕ) where
 -- passes that are dealt one by one
 module _ (S I : Type 0) (opening : List ℕ) (passes : ℕ) where
   abbrev Sat : Type 0
-  Sat = Me (Option S) (View I)
+  Sat = Me (Option S) (Knowledge I)
 
   abbrev all : List (Standing I)
   all = (newcomers opening passes).standings
@@ -78,13 +78,13 @@ module _ {I : Type 0} where
       ∙ (sym (append_assoc left (pass ∷ []) (map (pass_of book) ps)) ∙ (ap (λ (qs : List (PassOf I)). qs ++ map (pass_of book) ps) (sym is) ∙ before))
 
 module _ (S I : Type 0) where
-  pub rests_again : (me : Me (Option S) (View I)) (ps : List (Standing I)) → me ≡ (resting ps, []) → me ≡ (resting me.0.standings, [])
-  rests_again me ps is = is ∙ ap (λ (m : Me (Option S) (View I)). (resting m.0.standings, [])) (sym is)
+  pub rests_again : (me : Me (Option S) (Knowledge I)) (ps : List (Standing I)) → me ≡ (resting ps, []) → me ≡ (resting me.0.standings, [])
+  rests_again me ps is = is ∙ ap (λ (m : Me (Option S) (Knowledge I)). (resting m.0.standings, [])) (sym is)
 
-  pub got_one : (me other after : Me (Option S) (View I)) (p : Standing I) → me ≡ (resting me.0.standings, []) → other ≡ (resting (p ∷ []), []) → after ≡ (both_views me.0 other.0, me.1) →
+  pub got_one : (me other after : Me (Option S) (Knowledge I)) (p : Standing I) → me ≡ (resting me.0.standings, []) → other ≡ (resting (p ∷ []), []) → after ≡ (both_views me.0 other.0, me.1) →
       after ≡ (resting (p ∷ me.0.standings), [])
   got_one me other after p rests one then =
-      then ∙ ((λ i. (both_views me.0 (one i).0, me.1)) ∙ ap (λ (m : Me (Option S) (View I)). (resting (p ∷ me.0.standings), m.1)) rests)
+      then ∙ ((λ i. (both_views me.0 (one i).0, me.1)) ∙ ap (λ (m : Me (Option S) (Knowledge I)). (resting (p ∷ me.0.standings), m.1)) rests)
 
 module _ {S I : Type 0} (opening_of : S → List ℕ) (history_of : S → List (Made I)) (opening : List ℕ) (passes : ℕ) where
   -- a table that has just been made
@@ -107,10 +107,10 @@ module _ {S I : Type 0} (opening_of : S → List ℕ) (history_of : S → List (
       all_known = All-map (IsPassIn opening passes []) (newcomer opening) (range_with_len 0 passes)
           (λ i d small. let short = length-range_with_len 0 passes in knows (get_or (range_with_len 0 passes) i d) (rw (get_or-range_with_len 0 passes i d (omega arith)) (omega arith)))
 
-      only : (j : ℕ) (v : View I) → get_elem? (newcomers opening passes ∷ []) j ≡ some v → All (IsPassIn opening passes []) v.standings
-      only zero v k = subst (λ (v : View I). All (IsPassIn opening passes []) v.standings) (some-injective (newcomers opening passes) v k) all_known
+      only : (j : ℕ) (v : Knowledge I) → get_elem? (newcomers opening passes ∷ []) j ≡ some v → All (IsPassIn opening passes []) v.standings
+      only zero v k = subst (λ (v : Knowledge I). All (IsPassIn opening passes []) v.standings) (some-injective (newcomers opening passes) v k) all_known
       only (suc j) v k = absurd (cc)
 
-      unheld : (j : ℕ) (v : View I) → get_elem? (newcomers opening passes ∷ []) j ≡ some v → v.found ≡ None
-      unheld zero v k = ap (λ (v : View I). v.found) (sym (some-injective (newcomers opening passes) v k))
+      unheld : (j : ℕ) (v : Knowledge I) → get_elem? (newcomers opening passes ∷ []) j ≡ some v → v.found ≡ None
+      unheld zero v k = ap (λ (v : Knowledge I). v.found) (sym (some-injective (newcomers opening passes) v k))
       unheld (suc j) v k = absurd (cc)

@@ -10,7 +10,7 @@ use mathlib.Core.Option.{some}
 use lib.ListN.{get_elem?}
 use Rattle.atomic_table.proofs.Lists.{set_else, set_again, set_here}
 use Rattle.turn_book.specs.declared.turns.Standing.{Standing}
-use Rattle.turn_book.specs.declared.turns.View.{View}
+use Rattle.turn_book.specs.declared.turns.Knowledge.{Knowledge}
 use Rattle.turn_book.specs.Turns.{numbers_of, resting, spent, both_views}
 
 -- lists of numbers that have the same ones
@@ -63,28 +63,28 @@ others_differ passes k ks rest p i d small same =
     counts_itself n = grind (arith, nat_tests)
 
 module _ {I : Type 0} where
-  abbrev pub nums : View I → List ℕ
+  abbrev pub nums : Knowledge I → List ℕ
   nums v = map (λ (p : Standing I). p.number) v.standings
 
-  pub numbers_of-append : (vs ws : List (View I)) → numbers_of (vs ++ ws) ≡ numbers_of vs ++ numbers_of ws
+  pub numbers_of-append : (vs ws : List (Knowledge I)) → numbers_of (vs ++ ws) ≡ numbers_of vs ++ numbers_of ws
   numbers_of-append [] ws = refl
   numbers_of-append (v ∷ vs) ws = ap (λ (ns : List ℕ). nums v ++ ns) (numbers_of-append vs ws) ∙ sym (append_assoc (nums v) (numbers_of vs) (numbers_of ws))
 
-  pub within : (views : List (View I)) (id : ℕ) (v : View I) → get_elem? views id ≡ some v → id < length views
+  pub within : (views : List (Knowledge I)) (id : ℕ) (v : Knowledge I) → get_elem? views id ≡ some v → id < length views
   within [] id v there = absurd (cc)
   within (x ∷ xs) zero v there = omega arith
   within (x ∷ xs) (suc id) v there = let small = within xs id v there in omega arith
 
   -- a seat that keeps its passes
-  pub numbers_of-kept : (views : List (View I)) (id : ℕ) (v w : View I) → get_elem? views id ≡ some v → nums w ≡ nums v → numbers_of (slice_set views id w) ≡ numbers_of views
+  pub numbers_of-kept : (views : List (Knowledge I)) (id : ℕ) (v w : Knowledge I) → get_elem? views id ≡ some v → nums w ≡ nums v → numbers_of (slice_set views id w) ≡ numbers_of views
   numbers_of-kept [] id v w there same = absurd (cc)
   numbers_of-kept (x ∷ xs) zero v w there same =
       let is : x ≡ v = cc in
-      ap (λ (ns : List ℕ). ns ++ numbers_of xs) (same ∙ ap (λ (u : View I). nums u) (sym is))
+      ap (λ (ns : List ℕ). ns ++ numbers_of xs) (same ∙ ap (λ (u : Knowledge I). nums u) (sym is))
   numbers_of-kept (x ∷ xs) (suc id) v w there same = ap (λ (ns : List ℕ). nums x ++ ns) (numbers_of-kept xs id v w there same)
 
   -- the numbers of one seat, and then those of all others
-  pub taken_out : (views : List (View I)) (id : ℕ) (v w : View I) → get_elem? views id ≡ some v → IsPermutation (numbers_of (slice_set views id w)) (nums w ++ numbers_of (slice_set views id spent))
+  pub taken_out : (views : List (Knowledge I)) (id : ℕ) (v w : Knowledge I) → get_elem? views id ≡ some v → IsPermutation (numbers_of (slice_set views id w)) (nums w ++ numbers_of (slice_set views id spent))
   taken_out [] id v w there = absurd (cc)
   taken_out (x ∷ xs) zero v w there = IsPermutation-refl (nums w ++ numbers_of xs)
   taken_out (x ∷ xs) (suc id) v w there =
@@ -93,13 +93,13 @@ module _ {I : Type 0} where
       (IsPermutation-append_right (nums x) (numbers_of (slice_set xs id w)) (nums w ++ others) (taken_out xs id v w there))
       (exchanged (nums x) (nums w) others)
 
-  pub seat_first : (views : List (View I)) (id : ℕ) (v : View I) → get_elem? views id ≡ some v → IsPermutation (numbers_of views) (nums v ++ numbers_of (slice_set views id spent))
+  pub seat_first : (views : List (Knowledge I)) (id : ℕ) (v : Knowledge I) → get_elem? views id ≡ some v → IsPermutation (numbers_of views) (nums v ++ numbers_of (slice_set views id spent))
   seat_first views id v there =
       same_left (numbers_of views) (numbers_of (slice_set views id v)) (nums v ++ numbers_of (slice_set views id spent))
-      (ap (λ (vs : List (View I)). numbers_of vs) (sym (set_again views id v there))) (taken_out views id v v there)
+      (ap (λ (vs : List (Knowledge I)). numbers_of vs) (sym (set_again views id v there))) (taken_out views id v v there)
 
   -- the numbers of two seats, and then those of all others
-  pub two_first : (views : List (View I)) (id j : ℕ) (v u : View I) → get_elem? views id ≡ some v → get_elem? views j ≡ some u → j ≢ id →
+  pub two_first : (views : List (Knowledge I)) (id j : ℕ) (v u : Knowledge I) → get_elem? views id ≡ some v → get_elem? views j ≡ some u → j ≢ id →
       IsPermutation (numbers_of views) (nums v ++ (nums u ++ numbers_of (slice_set (slice_set views id spent) j spent)))
   two_first views id j v u there here apart =
       IsPermutation-trans (numbers_of views) (nums v ++ numbers_of (slice_set views id spent)) (nums v ++ (nums u ++ numbers_of (slice_set (slice_set views id spent) j spent)))
@@ -108,7 +108,7 @@ module _ {I : Type 0} where
       (seat_first (slice_set views id spent) j u (set_else views id j spent apart ∙ here)))
 
   -- a seat's first pass goes to a new seat
-  pub numbers_of-split : (views : List (View I)) (id : ℕ) (v : View I) (p : Standing I) (ps : List (Standing I)) → get_elem? views id ≡ some v → v.standings ≡ p ∷ ps →
+  pub numbers_of-split : (views : List (Knowledge I)) (id : ℕ) (v : Knowledge I) (p : Standing I) (ps : List (Standing I)) → get_elem? views id ≡ some v → v.standings ≡ p ∷ ps →
       IsPermutation (numbers_of views) (numbers_of (slice_set views id (resting ps) ++ resting (p ∷ []) ∷ []))
   numbers_of-split views id v p ps there is =
       let others : List ℕ = numbers_of (slice_set views id spent) in
@@ -125,20 +125,20 @@ module _ {I : Type 0} where
       (IsPermutation-sym (numbers_of (slice_set views id (resting ps)) ++ p.number ∷ []) (p.number ∷ (left ++ others)) after))
 
   -- a seat's passes go to another
-  pub numbers_of-joined : (views : List (View I)) (id other : ℕ) (v w : View I) → get_elem? views id ≡ some v → get_elem? (slice_set views id (both_views v w)) other ≡ some w → other ≢ id →
+  pub numbers_of-joined : (views : List (Knowledge I)) (id other : ℕ) (v w : Knowledge I) → get_elem? views id ≡ some v → get_elem? (slice_set views id (both_views v w)) other ≡ some w → other ≢ id →
       IsPermutation (numbers_of views) (numbers_of (slice_set (slice_set views id (both_views v w)) other spent))
   numbers_of-joined views id other v w there here apart =
-      let both : View I = both_views v w in
+      let both : Knowledge I = both_views v w in
       let others : List ℕ = numbers_of (slice_set (slice_set views id spent) other spent) in
-      let after : List (View I) = slice_set (slice_set views id both) other spent in
+      let after : List (Knowledge I) = slice_set (slice_set views id both) other spent in
       let here_before : get_elem? views other ≡ some w = sym (set_else views id other both apart) ∙ here in
       let at_id : get_elem? after id ≡ some both = set_else (slice_set views id both) other id spent (λ e. apart (sym e)) ∙ set_here views id both (within views id v there) in
       let rest : slice_set after id spent ≡ slice_set (slice_set views id spent) other spent =
-      set_comm (slice_set views id both) other id spent spent apart ∙ ap (λ (vs : List (View I)). slice_set vs other spent) (set-set views id both spent) in
+      set_comm (slice_set views id both) other id spent spent apart ∙ ap (λ (vs : List (Knowledge I)). slice_set vs other spent) (set-set views id both spent) in
       let both_is : nums both ≡ nums w ++ nums v = map-append (λ (p : Standing I). p.number) w.standings v.standings in
       let after_is : IsPermutation (numbers_of after) (nums w ++ (nums v ++ others)) =
       same_right (numbers_of after) (nums both ++ numbers_of (slice_set after id spent)) (nums w ++ (nums v ++ others))
-      (ap (λ (vs : List (View I)). nums both ++ numbers_of vs) rest ∙ (ap (λ (ns : List ℕ). ns ++ others) both_is ∙ append_assoc (nums w) (nums v) others))
+      (ap (λ (vs : List (Knowledge I)). nums both ++ numbers_of vs) rest ∙ (ap (λ (ns : List ℕ). ns ++ others) both_is ∙ append_assoc (nums w) (nums v) others))
       (seat_first after id both at_id) in
       IsPermutation-trans (numbers_of views) (nums w ++ (nums v ++ others)) (numbers_of after)
       (IsPermutation-trans (numbers_of views) (nums v ++ (nums w ++ others)) (nums w ++ (nums v ++ others)) (two_first views id other v w there here_before apart) (exchanged (nums v) (nums w) others))

@@ -10,15 +10,15 @@ use Rattle.turn_book.specs.Entries.{made_by, entries_of}
 use Rattle.turn_book.specs.Passes.{BookId, PassOf, HeldOf}
 use Rattle.turn_book.specs.declared.kept.Made.{Made}
 use Rattle.turn_book.specs.declared.turns.Standing.{Standing}
-use Rattle.turn_book.specs.declared.turns.View.{View}
+use Rattle.turn_book.specs.declared.turns.Knowledge.{Knowledge}
 
 module _ {I : Type 0} where
   -- the view of a seat with these passes, which does not have the state
-  abbrev pub resting : List (Standing I) → View I
+  abbrev pub resting : List (Standing I) → Knowledge I
   resting standings = record { standings = standings; found = None }
 
   -- the view of a seat with this pass, which has the state and found this history in it
-  abbrev pub holding : Standing I → List (Made I) → View I
+  abbrev pub holding : Standing I → List (Made I) → Knowledge I
   holding standing found = record { standings = standing ∷ []; found = Some found }
 
   -- a pass before its first hold
@@ -26,7 +26,7 @@ module _ {I : Type 0} where
   newcomer opening number = record { number = number; opening = opening; seen = []; made = []; holds = 0 }
 
   -- the view of a seat with all passes, whose numbers are those below this one
-  abbrev pub newcomers : List ℕ → ℕ → View I
+  abbrev pub newcomers : List ℕ → ℕ → Knowledge I
   newcomers opening passes = resting (map (newcomer opening) (range_with_len 0 passes))
 
   -- the pass after a hold, in which it found one history and left another
@@ -39,11 +39,11 @@ module _ {I : Type 0} where
   first_of (p ∷ ps) = p
 
   -- the pass of a seat that has one
-  abbrev pub standing_of : View I → Standing I
+  abbrev pub standing_of : Knowledge I → Standing I
   standing_of v = first_of v.standings
 
   -- the history that a seat found in the state, if it has the state
-  abbrev pub found_of : View I → List (Made I)
+  abbrev pub found_of : Knowledge I → List (Made I)
   found_of v = unwrap_or v.found []
 
   -- a pass as contracts see it
@@ -55,13 +55,13 @@ module _ {I : Type 0} where
   dealt_of book opening passes = map (λ n. pass_of book (newcomer opening n)) (range_with_len 0 passes)
 
   -- the history is the one that the seat found, followed by entries of its pass
-  abbrev pub AddsTo : View I → List (Made I) → Type 0
+  abbrev pub AddsTo : Knowledge I → List (Made I) → Type 0
   AddsTo v history =
       let p = standing_of v in (items : List I) × (history ≡ found_of v ++ entries_of p.number (length p.made) items)
 
   -- the numbers of all passes, seat by seat
-  abbrev pub numbers_of : List (View I) → List ℕ
-  numbers_of views = flat_map (λ (v : View I). map (λ (p : Standing I). p.number) v.standings) views
+  abbrev pub numbers_of : List (Knowledge I) → List ℕ
+  numbers_of views = flat_map (λ (v : Knowledge I). map (λ (p : Standing I). p.number) v.standings) views
 
   -- The history begins with what the pass has seen, and its entries of this pass are those that the pass made, numbered from 0.
   -- What a pass has seen it saw in a hold
@@ -79,82 +79,82 @@ module _ {I : Type 0} where
 
 module _ {S I : Type 0} where
   -- a seat with one pass, which does not have the state
-  abbrev pub HasPass : Me (Option S) (View I) → Type 0
+  abbrev pub HasPass : Me (Option S) (Knowledge I) → Type 0
   HasPass me = (standing : Standing I) × (me ≡ (resting (standing ∷ []), []))
 
   -- a seat whose pass has the state
-  abbrev pub HasState : Me (Option S) (View I) → Type 0
+  abbrev pub HasState : Me (Option S) (Knowledge I) → Type 0
   HasState me = (standing : Standing I) × (found : List (Made I)) × (me ≡ (holding standing found, (0, None) ∷ []))
 
   -- the seat after the hold, in which it left this history
-  abbrev pub rested : View I → List (Made I) → Me (Option S) (View I)
+  abbrev pub rested : Knowledge I → List (Made I) → Me (Option S) (Knowledge I)
   rested v history = (resting (after_hold (standing_of v) (found_of v) history ∷ []), [])
 
   -- a hold as contracts see it
-  abbrev pub held_of : BookId → View I → S → HeldOf S I
+  abbrev pub held_of : BookId → Knowledge I → S → HeldOf S I
   held_of book v state = record { pass = pass_of book (standing_of v); found = found_of v; state = state }
 
 module _ {S I : Type 0} (opening_of : S → List ℕ) (history_of : S → List (Made I)) where
   -- the state is at home, and no seat has it
-  pub record AtHome (opening : List ℕ) (hist : List (Made I)) (s : State (Option S) (View I)) : Type 0 where
+  pub record AtHome (opening : List ℕ) (hist : List (Made I)) (s : State (Option S) (Knowledge I)) : Type 0 where
     pub state : S
     pub home : s.homes ≡ maybe.some (Some state) ∷ []
     pub word : s.words ≡ 0 ∷ []
     pub history_is : history_of state ≡ hist
     pub opening_is : opening_of state ≡ opening
-    pub none_out : (j : ℕ) (v : View I) → get_elem? s.views j ≡ maybe.some v → v.found ≡ None
+    pub none_out : (j : ℕ) (v : Knowledge I) → get_elem? s.views j ≡ maybe.some v → v.found ≡ None
 
   -- one seat has the state, and found this history in it
-  pub record IsOut (hist : List (Made I)) (s : State (Option S) (View I)) : Type 0 where
+  pub record IsOut (hist : List (Made I)) (s : State (Option S) (Knowledge I)) : Type 0 where
     pub who : ℕ
     pub standing : Standing I
     pub away : s.homes ≡ maybe.none ∷ []
     pub word : s.words ≡ 1 ∷ []
     pub there : get_elem? s.views who ≡ maybe.some (holding standing hist)
-    pub no_other : (j : ℕ) (v : View I) → get_elem? s.views j ≡ maybe.some v → j ≢ who → v.found ≡ None
+    pub no_other : (j : ℕ) (v : Knowledge I) → get_elem? s.views j ≡ maybe.some v → j ≢ who → v.found ≡ None
 
   -- there is one history, whose entries are of passes that were given out. Each pass is known to one seat, and follows the history
-  pub record HasOneHistory (opening : List ℕ) (passes : ℕ) (s : State (Option S) (View I)) : Type 0 where
+  pub record HasOneHistory (opening : List ℕ) (passes : ℕ) (s : State (Option S) (Knowledge I)) : Type 0 where
     pub hist : List (Made I)
     pub entries : All (λ (e : Made I). e.pass < passes) hist
     pub given : IsPermutation (range_with_len 0 passes) (numbers_of s.views)
-    pub each : (j : ℕ) (v : View I) → get_elem? s.views j ≡ maybe.some v → All (IsPassIn opening passes hist) v.standings
+    pub each : (j : ℕ) (v : Knowledge I) → get_elem? s.views j ≡ maybe.some v → All (IsPassIn opening passes hist) v.standings
     pub place : AtHome opening hist s ⊎ IsOut hist s
 
   -- the seat has the state, which stands where the pass may follow it
-  pub record Took (p : Standing I) (after : Me (Option S) (View I)) : Type 0 where
+  pub record Took (p : Standing I) (after : Me (Option S) (Knowledge I)) : Type 0 where
     pub state : S
     pub after_is : after ≡ (holding p (history_of state), (0, Some state) ∷ [])
     pub opening_is : opening_of state ≡ p.opening
     pub follows : FollowsHistory (history_of state) p
 
   -- the state was taken, or nothing happened
-  abbrev pub takes_then : Step (Option S) → Me (Option S) (View I) → ℕ → Me (Option S) (View I) → Type 0
+  abbrev pub takes_then : Step (Option S) → Me (Option S) (Knowledge I) → ℕ → Me (Option S) (Knowledge I) → Type 0
   takes_then st me word after = MatchBool (word == 0) (Took (standing_of me.0) after) (after ≡ me)
 
 module _ {S I : Type 0} (history_of : S → List (Made I)) where
   -- the state was given back, and the pass has seen its whole history
-  pub record Gave (v : View I) (carried : List (ℕ × Option S)) (after : Me (Option S) (View I)) : Type 0 where
+  pub record Gave (v : Knowledge I) (carried : List (ℕ × Option S)) (after : Me (Option S) (Knowledge I)) : Type 0 where
     pub state : S
     pub carried_is : carried ≡ (0, Some state) ∷ []
     pub after_is : after ≡ (resting (after_hold (standing_of v) (found_of v) (history_of state) ∷ []), [])
 
-  abbrev pub gives_then : Step (Option S) → Me (Option S) (View I) → ℕ → Me (Option S) (View I) → Type 0
+  abbrev pub gives_then : Step (Option S) → Me (Option S) (Knowledge I) → ℕ → Me (Option S) (Knowledge I) → Type 0
   gives_then st me word after = Gave me.0 me.1 after
 
 module _ {I : Type 0} where
   -- the seat keeps all passes but the first, and a new seat has that one
-  abbrev pub without_first : View I → View I
+  abbrev pub without_first : Knowledge I → Knowledge I
   without_first v = resting (drop 1 v.standings)
 
-  abbrev pub first_alone : View I → View I
+  abbrev pub first_alone : Knowledge I → Knowledge I
   first_alone v = resting (standing_of v ∷ [])
 
   -- the passes of both, those of the second first
-  abbrev pub both_views : View I → View I → View I
+  abbrev pub both_views : Knowledge I → Knowledge I → Knowledge I
   both_views v w = resting (w.standings ++ v.standings)
 
-  abbrev pub spent : View I
+  abbrev pub spent : Knowledge I
   spent = resting []
 
 -- one word and one slot

@@ -19,7 +19,7 @@ pub struct Standing<I> {
 
 /// What a seat knows: the passes that it has, and while it has the state the history that it found
 /// there. No value of it is made.
-pub struct View<I> {
+pub struct Knowledge<I> {
     pub standings: LinkedList<Standing<I>>,
     pub found: Option<LinkedList<Made<I>>>,
 }
@@ -34,7 +34,7 @@ pub struct Start<S> {
 /// The rule that every step keeps.
 pub struct Turns;
 
-impl<S: Kept> TableRule<Option<S>, View<S::Item>, Start<S>> for Turns {
+impl<S: Kept> TableRule<Option<S>, Knowledge<S::Item>, Start<S>> for Turns {
     ghost use Rattle.turn_book.specs.Turns.{HasOneHistory, newcomers};
 
     ghost holds = { λ key. HasOneHistory S.opening S.history (S.opening key.state.value) key.passes };
@@ -45,7 +45,7 @@ impl<S: Kept> TableRule<Option<S>, View<S::Item>, Start<S>> for Turns {
 /// A step that takes the state if it is at home.
 pub struct Take;
 
-impl<S: Kept> Play<Option<S>, View<S::Item>> for Take {
+impl<S: Kept> Play<Option<S>, Knowledge<S::Item>> for Take {
     ghost use Rattle.turn_book.specs.Turns.{takes_then};
 
     ghost then = { takes_then S.opening S.history };
@@ -54,7 +54,7 @@ impl<S: Kept> Play<Option<S>, View<S::Item>> for Take {
 /// The step that gives the state back.
 pub struct Give;
 
-impl<S: Kept> Play<Option<S>, View<S::Item>> for Give {
+impl<S: Kept> Play<Option<S>, Knowledge<S::Item>> for Give {
     ghost use Rattle.turn_book.specs.Turns.{gives_then};
 
     ghost then = { gives_then S.history };
@@ -63,7 +63,7 @@ impl<S: Kept> Play<Option<S>, View<S::Item>> for Give {
 /// A new seat gets the first of the passes.
 pub struct FirstPass;
 
-impl<I> Split<View<I>> for FirstPass {
+impl<I> Split<Knowledge<I>> for FirstPass {
     ghost use Rattle.turn_book.specs.Turns.{without_first, first_alone};
 
     ghost left = { without_first };
@@ -74,7 +74,7 @@ impl<I> Split<View<I>> for FirstPass {
 /// One seat gets the passes of both.
 pub struct AllPasses;
 
-impl<I> Join<View<I>> for AllPasses {
+impl<I> Join<Knowledge<I>> for AllPasses {
     ghost use Rattle.turn_book.specs.Turns.{both_views, spent};
 
     ghost both = { both_views };
@@ -82,8 +82,8 @@ impl<I> Join<View<I>> for AllPasses {
     ghost spent = { spent };
 }
 
-pub type SharedTable<S> = Shared<Option<S>, View<<S as Kept>::Item>, Start<S>, Turns>;
+pub type SharedTable<S> = Shared<Option<S>, Knowledge<<S as Kept>::Item>, Start<S>, Turns>;
 
-pub type BookSeat<S> = Seat<Option<S>, View<<S as Kept>::Item>>;
+pub type BookSeat<S> = Seat<Option<S>, Knowledge<<S as Kept>::Item>>;
 
-pub type BookTable<S> = Table<Option<S>, View<<S as Kept>::Item>, Start<S>, Turns, Global>;
+pub type BookTable<S> = Table<Option<S>, Knowledge<<S as Kept>::Item>, Start<S>, Turns, Global>;

@@ -6,7 +6,7 @@ use mathlib.Core.List.{IsPrefix}
 use prog.Atomic.{either}
 use Rattle.logbook.specs.Pages.{Cell, cell, keeps, no_nib, step, Moves, Goes}
 use Rattle.value_snap.specs.declared.published.Published.{Published}
-use Rattle.value_snap.specs.Lists.{IsOrdered, MayFollow}
+use Rattle.value_snap.specs.Lists.{IsOrdered, MayBePublished}
 use Rattle.value_snap.specs.Log.{IsListed, Adds}
 use Rattle.value_snap.proofs.Fronts.{full_begins, FollowsFrom, ordered_more, follows_is}
 
@@ -19,7 +19,7 @@ moved xs ys n = Unit {0}
 abbrev pub AddsTo : List Published → Published → ℕ → List Cell → List Published → Type 0
 AddsTo seen e n = Goes IsListed shown moved 0 (seen, (no_nib, None)) (λ k. either (k == n) (n + 1) k) (Adds (step 0 n (n + 1) e) (seen, (no_nib, None)))
 
-goes_on : (list seen : List Published) (e : Published) (n : ℕ) → length seen ≡ n → MayFollow seen e → IsOrdered list → IsPrefix seen list → (b : Bool) → (length list == n) ≡ b
+goes_on : (list seen : List Published) (e : Published) (n : ℕ) → length seen ≡ n → MayBePublished seen e → IsOrdered list → IsPrefix seen list → (b : Bool) → (length list == n) ≡ b
     → AddsTo seen e n ((length list, true) ∷ (0, true) ∷ []) list
 goes_on list seen e n len may ordered begins true is =
     let here : length list ≡ n = grind (arith, nat_tests) in
@@ -32,7 +32,7 @@ goes_on list seen e n len may ordered begins false is =
     let count : either (length list == n) (n + 1) (length list) ≡ length (list ++ []) = rw is (ap length (sym all)) in
     (keeps, [], None, tt, record { words = ap (λ (k : ℕ). (k, true) ∷ (0, true) ∷ []) count; ordered = subst IsOrdered (sym all) ordered }, inl (refl, refl), rw is tt)
 
-pub adding : (seen : List Published) (e : Published) (n : ℕ) → length seen ≡ n → MayFollow seen e
+pub adding : (seen : List Published) (e : Published) (n : ℕ) → length seen ≡ n → MayBePublished seen e
     → Moves IsListed shown moved 0 (seen, (no_nib, None)) (λ k. either (k == n) (n + 1) k) (Adds (step 0 n (n + 1) e) (seen, (no_nib, None)))
 adding seen e n len may cells list kept begins away =
     let P : List Cell → Type 0 = λ c. (0 < length c) × ((cell c 0).1 ≡ true) × AddsTo seen e n c list in

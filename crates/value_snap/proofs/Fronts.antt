@@ -4,7 +4,7 @@ use Rattle.ss_base.specs.Lists.{IsPrefixOf}
 use Rattle.sheet_value.specs.declared.batch.Batch.{Batch}
 use Rattle.value_snap.specs.declared.published.Published.{Published}
 use Rattle.value_snap.specs.declared.published.Published.TheVariants.{Full, End}
-use Rattle.value_snap.specs.Lists.{IsOrderedFrom, MayFollow, is_ended, upto_from}
+use Rattle.value_snap.specs.Lists.{IsOrderedFrom, MayBePublished, is_ended, upto_from}
 
 -- of two beginnings of one list the shorter begins the longer
 pub shorter_begins : {A : Type 0} (xs ys zs : List A) → IsPrefixOf xs zs → IsPrefixOf ys zs → length xs ≤ length ys → IsPrefixOf xs ys
@@ -27,7 +27,7 @@ abbrev pub FollowsFrom : ℕ → List Published → Published → Type 0
 FollowsFrom n es (Full b) = (is_ended es ≡ false) × (upto_from n es ≤ b.upto)
 FollowsFrom n es End = is_ended es ≡ false
 
-pub follows_is : (es : List Published) (e : Published) → MayFollow es e → FollowsFrom 0 es e
+pub follows_is : (es : List Published) (e : Published) → MayBePublished es e → FollowsFrom 0 es e
 follows_is es (Full b) may = may
 follows_is es End may = may
 

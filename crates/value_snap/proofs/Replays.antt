@@ -16,9 +16,9 @@ use Rattle.value_snap.specs.declared.shown.Op.{Op}
 use Rattle.value_snap.specs.declared.shown.Op.TheVariants.{Put, Seal, Mark}
 use Rattle.value_snap.specs.declared.snap.View.{View}
 use Rattle.value_snap.specs.Lists.{batches_of, replay_of, upto_from, IsOrdered}
-use Rattle.value_snap.specs.Parts.{view_of}
+use Rattle.value_snap.specs.Parts.{view_of_range}
 use Rattle.value_snap.specs.Log.{FrontOf}
-use Rattle.value_snap.specs.Showing.{after_op, ops_of, puts_of, IsReplay}
+use Rattle.value_snap.specs.Showing.{after_op, ops_of, put_operations, IsReplay}
 use Rattle.value_snap.specs.Views.{store_of, store_at}
 use Rattle.value_snap.proofs.Fronts.{upto_grows}
 use Rattle.value_snap.proofs.CellValues.{KeepsNoEmpty, changes_keep_no_empty, nothing_empty}
@@ -48,7 +48,7 @@ pub replay_length : (size : Size) (es : List Published) → (replay_of size es).
 replay_length size es = length_after (opening_snapshot size) es
 
 -- the changes one after the other, and then the rest
-puts_then : (s : Shown) (cs : List Change) (rest : List Op) → fold after_op s (puts_of cs ++ rest) ≡ fold after_op (record s { snap = record s.snap { cells = fold with_change s.snap.cells cs } }) rest
+puts_then : (s : Shown) (cs : List Change) (rest : List Op) → fold after_op s (put_operations cs ++ rest) ≡ fold after_op (record s { snap = record s.snap { cells = fold with_change s.snap.cells cs } }) rest
 puts_then s [] rest = refl
 puts_then s (c ∷ cs) rest = puts_then (record s { snap = record s.snap { cells = with_change s.snap.cells c } }) cs rest
 
@@ -91,7 +91,7 @@ pub replay_no_empty : (size : Size) (es : List Published) → KeepsNoEmpty (repl
 replay_no_empty size es = no_empty_after (opening_snapshot size) es nothing_empty
 
 -- what is read goes no less far than a list with which the one on show begins
-pub seen_grows : (size : Size) (s : Snapshot) (old new : List Published) (v : View) (span : Span) → IsPrefixOf old new → IsOrdered new → s ≡ replay_of size new → v ≡ view_of s span → upto_from 0 old ≤ v.length
+pub seen_grows : (size : Size) (s : Snapshot) (old new : List Published) (v : View) (span : Span) → IsPrefixOf old new → IsOrdered new → s ≡ replay_of size new → v ≡ view_of_range s span → upto_from 0 old ≤ v.length
 seen_grows size s old new v span begins ordered s_is v_is =
     let n : v.length ≡ upto_from 0 new = ap (λ (w : View). w.length) v_is ∙ ap (λ (t : Snapshot). t.length) s_is ∙ replay_length size new in
     subst (λ (k : ℕ). upto_from 0 old ≤ k) (sym n) (upto_grows old new begins ordered)

@@ -40,9 +40,9 @@ abbrev pub IsOrdered : List Published → Type 0
 IsOrdered es = IsOrderedFrom 0 es
 
 -- what may come behind the list
-abbrev pub MayFollow : List Published → Published → Type 0
-MayFollow es (Full b) = (is_ended es ≡ false) × (upto_from 0 es ≤ b.upto)
-MayFollow es End = is_ended es ≡ false
+abbrev pub MayBePublished : List Published → Published → Type 0
+MayBePublished es (Full b) = (is_ended es ≡ false) × (upto_from 0 es ≤ b.upto)
+MayBePublished es End = is_ended es ≡ false
 
 -- the change is of another cell
 abbrev pub IsElsewhere : ℕ → ℕ → Change → Type 0

@@ -11,8 +11,8 @@ abbrev pub IsWithin : Snapshot → Span → Type 0
 IsWithin s span = (span.top < length s.row_order) × (span.bottom < length s.row_order) × (span.left < length s.col_order) × (span.right < length s.col_order)
 
 -- the lines from one visible index to another
-abbrev pub lines_between : List ℕ → ℕ → ℕ → List ℕ
-lines_between order first last = drop first (take (suc last) order)
+abbrev pub visible_lines_between : List ℕ → ℕ → ℕ → List ℕ
+visible_lines_between order first last = drop first (take (suc last) order)
 
 -- the values of one row
 abbrev pub values_in : CellValues → ℕ → List ℕ → List Value
@@ -23,5 +23,5 @@ abbrev pub part_between : CellValues → List ℕ → List ℕ → Table
 part_between cells rows cols = record { size = record { rows = length rows; cols = length cols }; rows = map (λ row. values_in cells row cols) rows }
 
 -- what is read of a range
-abbrev pub view_of : Snapshot → Span → View
-view_of s span = record { length = s.length; grid = part_between s.cells (lines_between s.row_order span.top span.bottom) (lines_between s.col_order span.left span.right) }
+abbrev pub view_of_range : Snapshot → Span → View
+view_of_range s span = record { length = s.length; grid = part_between s.cells (visible_lines_between s.row_order span.top span.bottom) (visible_lines_between s.col_order span.left span.right) }

@@ -15,12 +15,12 @@ after_op s (Seal n rows cols front) = record s { snap = record s.snap { length =
 after_op s (Mark front) = record s { front = front }
 
 -- the operations of changes
-abbrev pub puts_of : List Change → List Op
-puts_of changes = map (λ c. Put c) changes
+abbrev pub put_operations : List Change → List Op
+put_operations changes = map (λ c. Put c) changes
 
 -- the operations of one batch
 abbrev pub ops_of : Batch → FrontOf → List Op
-ops_of b front = puts_of b.changes ++ Seal b.upto b.row_order b.col_order front ∷ []
+ops_of b front = put_operations b.changes ++ Seal b.upto b.row_order b.col_order front ∷ []
 
 -- the values on show are the replay of their list
 abbrev pub IsReplay : Shown → Type 0

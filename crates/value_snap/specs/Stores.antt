@@ -5,7 +5,7 @@ use Rattle.sheet_value.specs.Snapshots.{Snapshot}
 use Rattle.value_snap.specs.declared.published.Published.{Published}
 use Rattle.value_snap.specs.declared.rule.Store.{Store}
 use Rattle.value_snap.specs.Lists.{replay_of}
-use Rattle.value_snap.specs.Views.{size_of}
+use Rattle.value_snap.specs.Views.{store_size}
 
 -- which store, what was published, and whether a call was refused
 pub record PublisherOf : Type 0 where
@@ -26,7 +26,7 @@ pub record ReaderOf : Type 0 where
 
 -- the values after the list that the reader knows
 abbrev pub known_snapshot : ReaderOf → Snapshot
-known_snapshot r = replay_of (size_of r.store) r.known
+known_snapshot r = replay_of (store_size r.store) r.known
 
 -- a sheet has at most 16,000 rows and columns
 abbrev pub HasFewLines : Batch → Type 0

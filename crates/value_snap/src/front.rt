@@ -4,7 +4,7 @@
 //! `Front`, so that of any two the shorter one begins the other.
 ghost use Rattle.std.specs.Prelude.{◌≡◌, ◌<◌, ◌^◌, ◌++◌, ◌∷◌, [], length, false, IsTrue, IfSome, None};
 ghost use Rattle.ss_base.specs.Lists.{IsPrefixOf};
-ghost use Rattle.value_snap.specs.Lists.{IsOrdered, MayFollow, upto_from};
+ghost use Rattle.value_snap.specs.Lists.{IsOrdered, MayBePublished, upto_from};
 ghost use Rattle.value_snap.specs.Log.{head_of};
 
 use crate::published::Published;
@@ -159,7 +159,7 @@ impl Front {
         requires head { head.now ≡ head_of self.now.book }
         requires plain { M.state about.now ≡ None }
         requires room { length self.now.list < 2 ^ 62 }
-        requires follows { MayFollow self.now.list (M.ask about.now) }
+        requires follows { MayBePublished self.now.list (M.ask about.now) }
         requires upto { upto ≡ upto_from 0 (self.now.list ++ M.ask about.now ∷ []) }
         ensures { IfSome result (λ f. (f.book ≡ self.now.book) × (f.list ≡ self.now.list ++ M.ask about.now ∷ [])) }
     {

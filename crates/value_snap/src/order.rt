@@ -1,6 +1,6 @@
 ghost use Rattle.std.specs.Prelude.{◌≡◌, ◌<◌, ◌≤◌, length, IfOk};
 ghost use Rattle.std.specs.List.{range_with_len};
-ghost use Rattle.value_snap.specs.Parts.{lines_between};
+ghost use Rattle.value_snap.specs.Parts.{visible_lines_between};
 
 use ss_base::Memory;
 use std::alloc::Global;
@@ -71,7 +71,7 @@ impl Order {
     /// The numbers from one visible index to another, both counted.
     pub fn between(&self, first: u32, last: u32) -> &[u32]
         requires last { last < length self.now }
-        ensures numbers { result.now ≡ lines_between self.now first last }
+        ensures numbers { result.now ≡ visible_lines_between self.now first last }
         ensures few { length result.now ≤ 16000 }
     {
         between(self.as_slice(), first as usize, last as usize)
@@ -80,7 +80,7 @@ impl Order {
 
 fn between(numbers: &[u32], first: usize, last: usize) -> &[u32]
     requires { last < length numbers.now }
-    ensures numbers { result.now ≡ lines_between numbers.now first last }
+    ensures numbers { result.now ≡ visible_lines_between numbers.now first last }
     ensures few { length result.now ≤ length numbers.now }
 {
     let (upto, _) = numbers.split_at(last + 1);

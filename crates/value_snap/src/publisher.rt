@@ -1,11 +1,11 @@
 ghost use Rattle.std.specs.Prelude.{◌≡◌, ◌≤◌, ◌++◌, ◌∷◌, [], true, false, drop, fold, IfOk, OnOk, OnErr, Some};
 ghost use Rattle.left_right.specs.Sides.{view};
-ghost use Rattle.value_snap.specs.Lists.{IsOrdered, MayFollow, is_ended, upto_from};
+ghost use Rattle.value_snap.specs.Lists.{IsOrdered, MayBePublished, is_ended, upto_from};
 ghost use Rattle.value_snap.specs.Log.{head_of};
-ghost use Rattle.value_snap.specs.Showing.{after_op, ops_of, puts_of, IsReplay};
+ghost use Rattle.value_snap.specs.Showing.{after_op, ops_of, put_operations, IsReplay};
 ghost use Rattle.sheet_value.specs.Snapshots.{opening_snapshot};
 ghost use Rattle.value_snap.specs.Stores.{PublisherOf, ToldOf, ReaderOf, HasFewLines};
-ghost use Rattle.value_snap.specs.Views.{store_of, store_at, size_of};
+ghost use Rattle.value_snap.specs.Views.{store_of, store_at, store_size};
 ghost use Rattle.value_snap.specs.declared.published.Published.TheVariants.{Full, End};
 
 use crate::front::{Add, Front, Head, open_list};
@@ -86,7 +86,7 @@ impl Publisher {
     /// After a refusal readers see what they saw, and the publisher is spent.
     pub fn publish<R: Wait>(&mut self, rt: &R, batch: &Batch) -> Result<(), Memory>
         requires unspent { self.old.spent ≡ false }
-        requires follows { MayFollow self.old.list (Full batch.now) }
+        requires follows { MayBePublished self.old.list (Full batch.now) }
         requires few { HasFewLines batch.now }
         ensures ok { OnOk result (self.new ≡ record self.old { list = self.old.list ++ Full batch.now ∷ [] }) }
         ensures length { OnOk result (upto_from 0 self.new.list ≡ batch.now.upto) }
@@ -181,7 +181,7 @@ pub fn store<R: Wait>(rt: &R, alloc: Global, size: Size) -> Result<(Publisher, R
     requires rows { size.rows ≤ 16000 }
     requires cols { size.cols ≤ 16000 }
     ensures publisher { IfOk result (λ r. (r.0.list ≡ []) × (r.0.spent ≡ false)) }
-    ensures size { IfOk result (λ r. size_of r.0.store ≡ size) }
+    ensures size { IfOk result (λ r. store_size r.0.store ≡ size) }
     ensures reader { IfOk result (λ r. r.1 ≡ record { store = r.0.store; known = []; refused = 0 }) }
 {
     let (head, front) = open_list();
@@ -272,7 +272,7 @@ fn show_batch<R: Wait>(
     batch: &Batch,
 ) -> (StoreWriter, Result<Front, Memory>)
     requires head { head.now ≡ head_of front.now.book }
-    requires follows { MayFollow front.now.list (Full batch.now) }
+    requires follows { MayBePublished front.now.list (Full batch.now) }
     requires few { HasFewLines batch.now }
     requires shown { writer.desk.shown.value.front ≡ front.now }
     requires pending { drop writer.behind writer.log.items ≡ [] }
@@ -350,7 +350,7 @@ fn append_batch(writer: &mut StoreWriter, batch: &Batch, front: Front) -> Result
 fn append_puts(writer: &mut StoreWriter, changes: &[Change]) -> Result<(), Memory>
     requires pending { drop writer.old.behind writer.old.log.items ≡ [] }
     ensures desk { writer.new.desk ≡ writer.old.desk }
-    ensures ok { OnOk result (drop writer.new.behind writer.new.log.items ≡ puts_of changes.now) }
+    ensures ok { OnOk result (drop writer.new.behind writer.new.log.items ≡ put_operations changes.now) }
 {
     for change in changes {
         let change = Change {

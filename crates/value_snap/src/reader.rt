@@ -3,11 +3,11 @@ ghost use Rattle.left_right.specs.Sides.{view};
 ghost use Rattle.ss_base.specs.Lists.{IsPrefixOf};
 ghost use Rattle.ss_base.specs.Streams.{Rose};
 ghost use Rattle.value_snap.specs.Lists.{IsOrdered, is_ended, replay_of, upto_from};
-ghost use Rattle.value_snap.specs.Parts.{IsWithin, view_of};
+ghost use Rattle.value_snap.specs.Parts.{IsWithin, view_of_range};
 ghost use Rattle.value_snap.specs.Refusals.{IsNoEntry, IsOutside};
 ghost use Rattle.value_snap.specs.Showing.{IsReplay};
 ghost use Rattle.value_snap.specs.Stores.{ReaderOf, known_snapshot};
-ghost use Rattle.value_snap.specs.Views.{store_of, store_at, size_of};
+ghost use Rattle.value_snap.specs.Views.{store_of, store_at, store_size};
 
 use crate::front::Front;
 use crate::publisher::Told;
@@ -87,7 +87,7 @@ impl Reader {
         ensures store { self.new.store ≡ self.old.store }
         ensures kept { IsPrefixOf self.old.known self.new.known }
         ensures ordered { IsOrdered self.new.known }
-        ensures ok { IfOk result (λ v. v ≡ view_of (known_snapshot self.new) span.now) }
+        ensures ok { IfOk result (λ v. v ≡ view_of_range (known_snapshot self.new) span.now) }
         ensures never_older { IfOk result (λ v. upto_from 0 self.old.known ≤ v.length) }
         ensures within { OnOk result (IsWithin (known_snapshot self.new) span.now) }
         ensures outside { IsOutside result → ¬ IsWithin (known_snapshot self.new) span.now }
@@ -169,7 +169,7 @@ fn look(shown: &Shown, front: &mut Front, span: &Span) -> Result<View, ReadErr>
     ensures kept { IsPrefixOf front.old.list front.new.list }
     ensures ordered { IsOrdered front.old.list → IsOrdered front.new.list }
     ensures never_older { IfOk result (λ v. upto_from 0 front.old.list ≤ v.length) }
-    ensures ok { IfOk result (λ v. v ≡ view_of (replay_of shown.now.size front.new.list) span.now) }
+    ensures ok { IfOk result (λ v. v ≡ view_of_range (replay_of shown.now.size front.new.list) span.now) }
     ensures within { OnOk result (IsWithin (replay_of shown.now.size front.new.list) span.now) }
     ensures outside { IsOutside result → ¬ IsWithin (replay_of shown.now.size front.new.list) span.now }
     ensures no_entry { IsNoEntry result → front.new ≡ front.old }

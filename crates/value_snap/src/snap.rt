@@ -1,6 +1,6 @@
 ghost use Rattle.std.specs.Prelude.{◌≡◌, ◌≤◌, ◌<◌, ◌↔◌, length, map, slice_index_or, slice_set, [], IsTrue, OnOk, OnErr, IfOk};
 ghost use Rattle.sheet_value.specs.Snapshots.{cell_in, opening_snapshot, with_change};
-ghost use Rattle.value_snap.specs.Parts.{IsWithin, part_between, values_in, view_of};
+ghost use Rattle.value_snap.specs.Parts.{IsWithin, part_between, values_in, view_of_range};
 
 use crate::cells::Cells;
 use crate::order::Order;
@@ -99,7 +99,7 @@ impl Snap {
     /// The values of a range. It takes time with its cells and the logarithm of the filled ones.
     pub fn view(&self, span: &Span) -> Result<View, Memory>
         requires { IsWithin self.now span.now }
-        ensures { IfOk result (λ v. v ≡ view_of self.now span.now) }
+        ensures { IfOk result (λ v. v ≡ view_of_range self.now span.now) }
     {
         let rows = self.rows.between(span.top, span.bottom);
         let cols = self.cols.between(span.left, span.right);

@@ -8,7 +8,7 @@ use Rattle.sheet_ops.specs.Fits.{EffectFits}
 use Rattle.sheet_ops.specs.Placed.{placed_size}
 use Rattle.sheet_grid.specs.Kept.{by_numbers}
 use Rattle.sheet_grid.specs.Values.{NumberedSheet, kept_in, placed_in}
-use Rattle.name_model.specs.InTurn.{EachFits, StepsEach, size_past_each, own_each_past, other_past_each}
+use Rattle.name_model.specs.InTurn.{EachFitsInTurn, StepsEach, size_past_each, own_each_past, other_past_each}
 use Rattle.name_model.proofs.Lifted.{placed-whole}
 use Rattle.name_model.proofs.Named.{left_by_identity, right_by_identity, both_same}
 use Rattle.name_model.proofs.Sized.{grows}
@@ -22,7 +22,7 @@ apply_each-requires-clause-fits c =
     let s = placed_size (placed_in c.args.sheet.now) in
     let size : placed_size (placed_in c.apply_effect.new.sheet) ≡ size_past s other = c.in_ok-apply_effect.ensures.size ∙ ap (λ (V : NumberedSheet). size_past (placed_size (placed_in V)) other) c.in_ok-left.ensures in
     let is : c.as_slice.result.now ≡ own_each_past s own other = c.as_slice.ensures ∙ (c.in_ok-own_after.ensures.own ∙ ap (λ (z : Size). own_each_past z own other) c.size.ensures.size) in
-    subst (λ (z : Size). EachFits z c.as_slice.result.now) (sym size) (subst (λ (cs : List Intent). EachFits (size_past s other) cs) (sym is) (each_fits s own other c.requires.own c.requires.other).0)
+    subst (λ (z : Size). EachFitsInTurn z c.as_slice.result.now) (sym size) (subst (λ (cs : List Intent). EachFitsInTurn (size_past s other) cs) (sym is) (each_fits s own other c.requires.own c.requires.other).0)
 
 pub apply_each-requires-clause-rows : goal.apply_each-requires-clause-rows
 apply_each-requires-clause-rows c =

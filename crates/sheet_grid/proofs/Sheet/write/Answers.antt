@@ -1,5 +1,5 @@
 use Rattle.std.proofs.Common.{◌∙◌, ap, length, arith, drop}
-use Rattle.sheet_grid.specs.Values.{value_of}
+use Rattle.sheet_grid.specs.Values.{numbered_sheet_of}
 use Rattle.sheet_grid.proofs.TidySheets.{Maps, in_rows, whole_front}
 use Rattle.sheet_grid.proofs.SheetValues.{puts_fit, numbered_fit, written}
 use Rattle.sheet_grid.proofs.Sheet.write.Goals as goal
@@ -17,7 +17,7 @@ pub invariant_of-self : goal.invariant_of-self
 invariant_of-self c =
     rw (whole_front c.write_puts.new.rows (drop (length c.write_puts.new.rows) c.self.inside.cells.items) c.self.inside.cells.len (omega arith))
     (written c.self.inside.rows c.self.inside.cols c.as_mut_slice.result.now (rw c.as_mut_slice.ensures.value c.self.invariant) c.args.self.now
-    (ap (λ (maps : Maps). value_of c.self.inside.rows c.self.inside.cols maps) c.as_mut_slice.ensures.value ∙ c.self.view_is)
+    (ap (λ (maps : Maps). numbered_sheet_of c.self.inside.rows c.self.inside.cols maps) c.as_mut_slice.ensures.value ∙ c.self.view_is)
     c.write_puts.result c.write_puts.new.rows c.args.puts.now c.deref.result.now c.requires (c.deref.ensures.value ∙ c.in_ok-numbered.ensures.value) (omega arith)
     c.write_puts.ensures.ok c.write_puts.ensures.empties c.write_puts.ensures.err).0
 
@@ -25,7 +25,7 @@ pub returns-clause-ok : goal.returns-clause-ok
 returns-clause-ok c =
     rw (whole_front c.write_puts.new.rows (drop (length c.write_puts.new.rows) c.self.inside.cells.items) c.self.inside.cells.len (omega arith))
     (written c.self.inside.rows c.self.inside.cols c.as_mut_slice.result.now (rw c.as_mut_slice.ensures.value c.self.invariant) c.args.self.now
-    (ap (λ (maps : Maps). value_of c.self.inside.rows c.self.inside.cols maps) c.as_mut_slice.ensures.value ∙ c.self.view_is)
+    (ap (λ (maps : Maps). numbered_sheet_of c.self.inside.rows c.self.inside.cols maps) c.as_mut_slice.ensures.value ∙ c.self.view_is)
     c.write_puts.result c.write_puts.new.rows c.args.puts.now c.deref.result.now c.requires (c.deref.ensures.value ∙ c.in_ok-numbered.ensures.value) (omega arith)
     c.write_puts.ensures.ok c.write_puts.ensures.empties c.write_puts.ensures.err).1
 
@@ -33,6 +33,6 @@ pub returns-clause-err : goal.returns-clause-err
 returns-clause-err c =
     rw (whole_front c.write_puts.new.rows (drop (length c.write_puts.new.rows) c.self.inside.cells.items) c.self.inside.cells.len (omega arith))
     (written c.self.inside.rows c.self.inside.cols c.as_mut_slice.result.now (rw c.as_mut_slice.ensures.value c.self.invariant) c.args.self.now
-    (ap (λ (maps : Maps). value_of c.self.inside.rows c.self.inside.cols maps) c.as_mut_slice.ensures.value ∙ c.self.view_is)
+    (ap (λ (maps : Maps). numbered_sheet_of c.self.inside.rows c.self.inside.cols maps) c.as_mut_slice.ensures.value ∙ c.self.view_is)
     c.write_puts.result c.write_puts.new.rows c.args.puts.now c.deref.result.now c.requires (c.deref.ensures.value ∙ c.in_ok-numbered.ensures.value) (omega arith)
     c.write_puts.ensures.ok c.write_puts.ensures.empties c.write_puts.ensures.err).2

@@ -3,7 +3,7 @@ use Rattle.sheet_ops.specs.declared.content.Content.{Content}
 use Rattle.sheet_ops.specs.declared.content.Content.TheVariants as content
 use Rattle.sheet_ops.specs.Fits.{ContentFits}
 use Rattle.sheet_grid.specs.Kept.{content_numbered}
-use Rattle.sheet_grid.specs.Numbering.{IsOrdered}
+use Rattle.sheet_grid.specs.Numbering.{HasOrderedRanges}
 use Rattle.sheet_grid.proofs.ToNumbers.{numbering_renames, ordered_formula}
 use Rattle.sheet_grid.proofs.numbering.content_numbered.Goals as goal
 
@@ -16,4 +16,4 @@ returns-in_ok-formula_numbered-in-Formula-clause-value c =
     ∙ sym (ap (content_numbered rows cols) c.in-Formula.is)
 
 pub returns-in_ok-formula_numbered-in-Formula-clause-ordered : goal.returns-in_ok-formula_numbered-in-Formula-clause-ordered
-returns-in_ok-formula_numbered-in-Formula-clause-ordered c = subst IsOrdered (sym c.in-Formula.is) (ordered_formula c.in-Formula.formula c.expr-ordered.ensures.formula)
+returns-in_ok-formula_numbered-in-Formula-clause-ordered c = subst HasOrderedRanges (sym c.in-Formula.is) (ordered_formula c.in-Formula.formula c.expr-ordered.ensures.formula)

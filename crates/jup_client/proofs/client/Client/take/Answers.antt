@@ -5,14 +5,14 @@ use Rattle.jup_client.specs.declared.Down.{Down}
 use Rattle.jup_client.specs.declared.Down.TheVariants as message
 use Rattle.sheet_ops.specs.Represents.{ClientRepresents}
 use Rattle.jup_client.specs.declared.client.TakeErr.TheVariants as fault
-use Rattle.jup_client.specs.Clients.{IsRefused, IsTaken}
+use Rattle.jup_client.specs.Clients.{RefusesMessage, IsTaken}
 use Rattle.jup_client.proofs.Causes.{exact, memory_alone, either}
 use Rattle.jup_client.proofs.Stays.{sent_admitted, own_taken, other_taken}
 use Rattle.jup_client.proofs.client.Client.take.Goals as goal
 
 pub returns-in-Own-clause-cause : goal.returns-in-Own-clause-cause
 returns-in-Own-clause-cause c x apart =
-    subst (λ (d : Down). (c.take_own.result ≡ Err x) ↔ IsRefused c.args.self.now d x) (sym c.in-Own.is)
+    subst (λ (d : Down). (c.take_own.result ≡ Err x) ↔ RefusesMessage c.args.self.now d x) (sym c.in-Own.is)
     (exact c.args.self.now c.take_own.ensures.stood message.Own c.take_own.result c.take_own.ensures.cause x apart)
 
 pub returns-in-Own-clause-done : goal.returns-in-Own-clause-done
@@ -29,7 +29,7 @@ returns-in-Own-clause-represents c sites H G few valid r more front sent =
 
 pub returns-in-Other-clause-cause : goal.returns-in-Other-clause-cause
 returns-in-Other-clause-cause c x apart =
-    subst (λ (d : Down). (c.take_other.result ≡ Err x) ↔ IsRefused c.args.self.now d x) (sym c.in-Other.is)
+    subst (λ (d : Down). (c.take_other.result ≡ Err x) ↔ RefusesMessage c.args.self.now d x) (sym c.in-Other.is)
     (exact c.args.self.now c.take_other.ensures.stood (message.Other c.in-Other.effect) c.take_other.result c.take_other.ensures.cause x apart)
 
 pub returns-in-Other-clause-done : goal.returns-in-Other-clause-done

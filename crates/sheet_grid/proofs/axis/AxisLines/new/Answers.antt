@@ -1,5 +1,5 @@
 use Rattle.std.proofs.Common.{subst, sym}
-use Rattle.sheet_grid.specs.Numbers.{numbers_from}
+use Rattle.sheet_ops.specs.Transforms.{numbers_from}
 use Rattle.sheet_grid.specs.Numbering.{IsAxis}
 use Rattle.sheet_grid.proofs.OpeningSheet.{opening_still}
 use Rattle.sheet_grid.proofs.axis.AxisLines.new.Goals as goal

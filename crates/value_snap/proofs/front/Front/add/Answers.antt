@@ -1,5 +1,5 @@
 use Rattle.std.proofs.Common.{◌≡◌, sym, ◌∙◌, ap}
-use Rattle.value_snap.specs.Lists.{MayFollow}
+use Rattle.value_snap.specs.Lists.{MayBePublished}
 use Rattle.value_snap.proofs.Adding.{adding}
 use Rattle.value_snap.proofs.front.Front.add.Goals as goal
 
@@ -11,7 +11,7 @@ compare_exchange-found-requires g c =
     let pen = c.no_pen-pen.ensures in
     let book : c.again-seen.result.book ≡ c.args.head.now.book =
     ap (λ s. s.book) again ∙ (ap (λ f. f.book) c.self.view_is ∙ sym (ap (λ w. w.book) head)) in
-    let may : MayFollow c.self.inside.seen.log (g.M.Plain.ask c.args.about.now) = rw (ap (λ f. f.list) c.self.view_is) c.requires.follows in (
+    let may : MayBePublished c.self.inside.seen.log (g.M.Plain.ask c.args.about.now) = rw (ap (λ f. f.list) c.self.view_is) c.requires.follows in (
       ap (λ w. w.tracked) head,
       book,
       pen.0 ∙ book,
