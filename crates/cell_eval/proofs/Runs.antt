@@ -22,14 +22,14 @@ use Rattle.formula_code.specs.Code.{code_of, codes_of, call_code, if_code, plain
 use Rattle.formula_code.proofs.Calls.{as_many_nodes, choice_counts, choice_is_if}
 use Rattle.funcs.specs.declared.arg.Arg.{Arg}
 use Rattle.funcs.specs.declared.arg.Arg.TheVariants as arg
-use Rattle.funcs.specs.Args.{value_of, number}
+use Rattle.funcs.specs.Args.{value_of_argument, number}
 use Rattle.funcs.specs.Calls.{call_of}
 use Rattle.funcs.specs.Scalars.{if_of}
 use Rattle.funcs.specs.Numbers.{is_zero}
 use Rattle.funcs.specs.Steps.{answer, and_then}
 use Rattle.cell_eval.specs.Operators.{prefixed, combined}
 use Rattle.cell_eval.specs.Meaning.{argument, meaning, arguments}
-use Rattle.cell_eval.specs.Machine.{tested, moved, run}
+use Rattle.cell_eval.specs.Machine.{tested, after_step, run}
 
 module _ (E : Environment) where
   -- as many steps are passed over as these are
@@ -42,7 +42,7 @@ module _ (E : Environment) where
   dropped (suc k) [] stack = refl
   dropped (suc k) (x ∷ xs) stack = dropped k xs stack
 
-  pub argument_value : (t : Tree Spot Span) → value_of E (argument t (meaning E t)) ≡ meaning E t
+  pub argument_value : (t : Tree Spot Span) → value_of_argument E (argument t (meaning E t)) ≡ meaning E t
   argument_value (num n) = refl
   argument_value (text t) = refl
   argument_value (fault e) = refl
@@ -68,7 +68,7 @@ module _ (E : Environment) where
   CallMoves f n stack = Some (0, arg.One (answer (call_of f E (reverse (take n stack)))) ∷ drop n stack)
 
   call_moves : (f : Fun) (xs stack : List Arg) (n : ℕ) → n ≡ length xs → n < 2 ^ 24 →
-      moved E (step.Call f n) (reverse xs ++ stack) ≡ Some (0, arg.One (answer (call_of f E xs)) ∷ stack)
+      after_step E (step.Call f n) (reverse xs ++ stack) ≡ Some (0, arg.One (answer (call_of f E xs)) ∷ stack)
   call_moves f xs stack n e few =
       let enough : nat_le n (length (reverse xs ++ stack)) && nat_lt n (2 ^ 24) ≡ true = grind (arith, nat_tests, length-append (reverse xs) stack, length-reverse xs) in
       by_test _ enough ∙ (ap (λ (k : ℕ). CallMoves f k (reverse xs ++ stack)) e ∙ (λ i. Some (0, arg.One (answer (call_of f E (given i))) ∷ drop_top xs stack i)))
@@ -85,14 +85,14 @@ module _ (E : Environment) where
   Leaves code a = (rest : List Step) (stack : List Arg) → run E 0 (code ++ rest) stack ≡ run E 0 rest (a ∷ stack)
 
   module _ (test xs ys : List Step) (a b c : Arg) (runs_test : Leaves test a) (runs_xs : Leaves xs b) (runs_ys : Leaves ys c) (rest : List Step) (stack : List Arg) where
-    first : run E 0 (xs ++ step.Skip (length ys + 1) ∷ (ys ++ step.Skip 0 ∷ rest)) stack ≡ run E 0 rest (arg.One (value_of E b) ∷ stack)
+    first : run E 0 (xs ++ step.Skip (length ys + 1) ∷ (ys ++ step.Skip 0 ∷ rest)) stack ≡ run E 0 rest (arg.One (value_of_argument E b) ∷ stack)
     first =
-        let on_top = arg.One (value_of E b) ∷ stack in
+        let on_top = arg.One (value_of_argument E b) ∷ stack in
         let many : length ys + 1 ≡ length (ys ++ step.Skip 0 ∷ []) = sym (length-append ys (step.Skip 0 ∷ [])) in
         runs_xs (step.Skip (length ys + 1) ∷ (ys ++ step.Skip 0 ∷ rest)) stack
         ∙ ((λ i. run E (many i) (sym (append_assoc ys (step.Skip 0 ∷ []) rest) i) on_top) ∙ passed (ys ++ step.Skip 0 ∷ []) rest on_top)
 
-    second : run E (length xs + 1) (xs ++ step.Skip (length ys + 1) ∷ (ys ++ step.Skip 0 ∷ rest)) stack ≡ run E 0 rest (arg.One (value_of E c) ∷ stack)
+    second : run E (length xs + 1) (xs ++ step.Skip (length ys + 1) ∷ (ys ++ step.Skip 0 ∷ rest)) stack ≡ run E 0 rest (arg.One (value_of_argument E c) ∷ stack)
     second =
         let end = step.Skip (length ys + 1) ∷ [] in
         let many : length xs + 1 ≡ length (xs ++ end) = sym (length-append xs end) in
@@ -108,12 +108,12 @@ module _ (E : Environment) where
         let flat : xs ++ step.Skip (length ys + 1) ∷ (ys ++ step.Skip 0 ∷ rest) ≡ all ++ rest = sym (simp append_assoc) in
         (λ i. run E (many i) (flat i) s) ∙ passed all rest s
 
-    by_zero : (z : Bool) → run E (cond z (length xs + 1) 0) (xs ++ step.Skip (length ys + 1) ∷ (ys ++ step.Skip 0 ∷ rest)) stack ≡ run E 0 rest (arg.One (cond z (value_of E c) (value_of E b)) ∷ stack)
+    by_zero : (z : Bool) → run E (cond z (length xs + 1) 0) (xs ++ step.Skip (length ys + 1) ∷ (ys ++ step.Skip 0 ∷ rest)) stack ≡ run E 0 rest (arg.One (cond z (value_of_argument E c) (value_of_argument E b)) ∷ stack)
     by_zero true = second
     by_zero false = first
 
     by_number : (r : Result ℤ CalcErr) → let next = tested (length xs + 1) (length xs + 1 + (length ys + 1)) r stack in
-        run E next.0 (xs ++ step.Skip (length ys + 1) ∷ (ys ++ step.Skip 0 ∷ rest)) next.1 ≡ run E 0 rest (arg.One (answer (and_then r (λ n. Ok (cond (is_zero n) (value_of E c) (value_of E b))))) ∷ stack)
+        run E next.0 (xs ++ step.Skip (length ys + 1) ∷ (ys ++ step.Skip 0 ∷ rest)) next.1 ≡ run E 0 rest (arg.One (answer (and_then r (λ n. Ok (cond (is_zero n) (value_of_argument E c) (value_of_argument E b))))) ∷ stack)
     by_number (Ok n) = by_zero (is_zero n)
     by_number (Err e) = neither (arg.One (value.Err e) ∷ stack)
 
@@ -230,14 +230,14 @@ module _ (E : Environment) where
   formula_runs t small = ap (λ (l : List Step). run E 0 l []) (sym (append-nil (code_of t))) ∙ code_runs t small [] []
 
   -- one step leads to what is left behind it
-  pub one_step : (left behind : List Step) (x : Step) (stack next : List Arg) (k : ℕ) → left ≡ x ∷ behind → moved E x stack ≡ Some (k, next) → run E 0 left stack ≡ run E 0 (drop k behind) next
+  pub one_step : (left behind : List Step) (x : Step) (stack next : List Arg) (k : ℕ) → left ≡ x ∷ behind → after_step E x stack ≡ Some (k, next) → run E 0 left stack ≡ run E 0 (drop k behind) next
   one_step left behind x stack next k e m =
       ap (λ (l : List Step). run E 0 l stack) e ∙ (ap (λ (o : Option (ℕ × List Arg)). option_and_then (λ next. run E next.0 behind next.1) o) m ∙ dropped k behind next)
 
   -- what the machine takes from the stack in the end is what the tree means
   pub meaning_left : (t : Tree Spot Span) (small : node_count t < 2 ^ 24) (steps : List Step) (stack rest : List Arg) (a : Arg) (v : Value) →
-      steps ≡ code_of t → run E 0 steps [] ≡ Some stack → stack ≡ a ∷ rest → v ≡ value_of E a → v ≡ meaning E t
+      steps ≡ code_of t → run E 0 steps [] ≡ Some stack → stack ≡ a ∷ rest → v ≡ value_of_argument E a → v ≡ meaning E t
   meaning_left t small steps stack rest a v e r s h =
       let left : Some (argument t (meaning E t) ∷ []) ≡ Some (a ∷ rest) = sym (formula_runs t small) ∙ (ap (λ (l : List Step). run E 0 l []) (sym e) ∙ (r ∙ ap Some s)) in
       let same : a ≡ argument t (meaning E t) = cc in
-      h ∙ (ap (value_of E) same ∙ argument_value t)
+      h ∙ (ap (value_of_argument E) same ∙ argument_value t)

@@ -9,7 +9,7 @@ use Rattle.sheet_value.specs.Environment.{Environment}
 use Rattle.formula_tree.specs.Tree.{Tree, Trees, num, text, fault, cell, range, pre, bin, call, none, more}
 use Rattle.funcs.specs.declared.arg.Arg.{Arg}
 use Rattle.funcs.specs.declared.arg.Arg.TheVariants as arg
-use Rattle.funcs.specs.Args.{value_of}
+use Rattle.funcs.specs.Args.{value_of_argument}
 use Rattle.funcs.specs.Calls.{call_of}
 use Rattle.funcs.specs.Steps.{answer}
 use Rattle.cell_eval.specs.Operators.{prefixed, combined}
@@ -25,8 +25,8 @@ abbrev mutual
   meaning E (num n) = value.Num n
   meaning E (text t) = text_value t
   meaning E (fault e) = value.Err e
-  meaning E (cell s) = value_of E (arg.At s)
-  meaning E (range s) = value_of E (arg.Over s)
+  meaning E (cell s) = value_of_argument E (arg.At s)
+  meaning E (range s) = value_of_argument E (arg.Over s)
   meaning E (pre op t) = answer (prefixed op (meaning E t))
   meaning E (bin op s t) = answer (combined op (meaning E s) (meaning E t))
   meaning E (call f ts) = answer (call_of f E (arguments E ts))

@@ -1,7 +1,7 @@
 ghost use Rattle.std.specs.Prelude.{◌≡◌, ◌≢◌, List, [], ◌∷◌, Some, IsSome, IfOk, drop};
 ghost use Rattle.funcs.specs.declared.arg.Arg.{Arg};
-ghost use Rattle.funcs.specs.Args.{value_of, number};
-ghost use Rattle.cell_eval.specs.Machine.{tested, moved, run};
+ghost use Rattle.funcs.specs.Args.{value_of_argument, number};
+ghost use Rattle.cell_eval.specs.Machine.{tested, after_step, run};
 
 use crate::operators::{combined, prefixed};
 use crate::stack::Stack;
@@ -35,8 +35,8 @@ fn past(steps: &[Step], count: usize) -> &[Step]
 
 /// Does one step, and gives how many steps behind it are passed over.
 fn perform<L: Look>(alloc: Global, step: &Step, stack: &mut Stack, look: &L) -> Result<u32, Memory>
-    requires { IsSome (moved (L.environment look.now) step.now stack.old) }
-    ensures { IfOk result (λ passed. moved (L.environment look.now) step.now stack.old ≡ Some (passed, stack.new)) }
+    requires { IsSome (after_step (L.environment look.now) step.now stack.old) }
+    ensures { IfOk result (λ passed. after_step (L.environment look.now) step.now stack.old ≡ Some (passed, stack.new)) }
 {
     match step {
         Step::Num(n) => put(stack, Arg::One(Value::Num(*n))),
@@ -100,14 +100,14 @@ fn test<L: Look>(stack: &mut Stack, at_zero: u32, at_error: u32, look: &L) -> Re
 /// The value of the argument on top, which it takes.
 pub(crate) fn pop_value<L: Look>(stack: &mut Stack, look: &L) -> Result<Value, Memory>
     requires { stack.old ≢ [] }
-    ensures { IfOk result (λ v. (a : Arg) × (stack.old ≡ a ∷ stack.new) × (v ≡ value_of (L.environment look.now) a)) }
+    ensures { IfOk result (λ v. (a : Arg) × (stack.old ≡ a ∷ stack.new) × (v ≡ value_of_argument (L.environment look.now) a)) }
 {
     value_of(stack.pop(), look)
 }
 
 /// An argument as a value.
 fn value_of<L: Look>(arg: Arg, look: &L) -> Result<Value, Memory>
-    ensures { IfOk result (λ v. v ≡ value_of (L.environment look.now) arg) }
+    ensures { IfOk result (λ v. v ≡ value_of_argument (L.environment look.now) arg) }
 {
     match arg {
         Arg::One(v) => Ok(v),
@@ -116,7 +116,7 @@ fn value_of<L: Look>(arg: Arg, look: &L) -> Result<Value, Memory>
             Seen::Lost => Ok(Value::Err(CalcErr::Lost)),
             Seen::Is(v) => v.copy(),
         },
-        Arg::Over(span) => match look.shape(&span) {
+        Arg::Over(span) => match look.range(&span) {
             Some(_) => Ok(Value::Err(CalcErr::BadKind)),
             None => Ok(Value::Err(CalcErr::Lost)),
         },

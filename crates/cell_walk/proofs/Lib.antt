@@ -1,4 +1,5 @@
 pub mod Hues
+pub mod Skips
 pub mod Steps
 pub mod Turns
 pub mod White

@@ -6,7 +6,7 @@ use Rattle.std.proofs.lemmas.Bool.Decides.{nat_tests}
 use Rattle.cell_walk.specs.declared.walking.Colour.{Colour}
 use Rattle.cell_walk.specs.declared.walking.Colour.TheVariants.{White, Grey, Ordered, Circular}
 use Rattle.cell_walk.specs.declared.walking.Entry.{Entry}
-use Rattle.cell_walk.specs.declared.walking.Place.{Place}
+use Rattle.cell_walk.specs.declared.walking.Progress.{Progress}
 use Rattle.cell_walk.specs.Walks.{IsIn, IsInStack, is_circle, Opens, IsAbove, AreOpen, Holds, MayBegin, IsFound}
 
 pub same_or_not : (m n : ℕ) → (m ≡ n) ⊎ (m ≢ n)
@@ -40,7 +40,7 @@ any_more p q (x ∷ xs) h k = by_first (p x) (q x) (h x) (λ j. any_more p q xs 
     by_first false true f r k = refl
     by_first false false f r k = r k
 
-module _ (mentions : ℕ → List ℕ) (rest : ℕ → Place → List ℕ) (first hue hue' : ℕ → Colour) where
+module _ (mentions : ℕ → List ℕ) (rest : ℕ → Progress → List ℕ) (first hue hue' : ℕ → Colour) where
   abbrev Before : List ℕ → List Entry → Type 0
   Before order stack = Holds mentions rest first hue order stack
 
@@ -139,7 +139,7 @@ module _ (mentions : ℕ → List ℕ) (rest : ℕ → Place → List ℕ) (firs
             below (inr r) = r
 
     -- a cell that was white comes onto the stack: the one below, if there is one, mentions it
-    pub push : (place : Place) (order : List ℕ) (stack : List Entry) → Before order stack → hue at ≡ White → hue' at ≡ Grey → rest at place ≡ mentions at → IsAbove mentions rest first (record { cell = at; place = place }) stack →
+    pub push : (place : Progress) (order : List ℕ) (stack : List Entry) → Before order stack → hue at ≡ White → hue' at ≡ Grey → rest at place ≡ mentions at → IsAbove mentions rest first (record { cell = at; place = place }) stack →
         After order (record { cell = at; place = place } ∷ stack)
     push place order stack h was now all above = record {
       orderly = h.orderly;
@@ -245,9 +245,9 @@ module _ (mentions : ℕ → List ℕ) (rest : ℕ → Place → List ℕ) (firs
       circles c q (inl k) = each e stack h.entries (mentions_one e d i (found (hue d) refl)) (marked e.cell (inl refl)) (λ x y. marked x (inr y)) c k
       circles c q (inr k) = circles_stay stays c (h.circles c (sym (others c k) ∙ q))
 
-module _ (mentions : ℕ → List ℕ) (rest : ℕ → Place → List ℕ) (first hue : ℕ → Colour) where
+module _ (mentions : ℕ → List ℕ) (rest : ℕ → Progress → List ℕ) (first hue : ℕ → Colour) where
   -- the uppermost goes through mentions that are in order
-  pub advance : (cell : ℕ) (from place : Place) (d : ℕ) (order : List ℕ) (stack : List Entry) → Holds mentions rest first hue order (record { cell = cell; place = from } ∷ stack) → Opens (rest cell) hue from place (Some d) →
+  pub advance : (cell : ℕ) (from place : Progress) (d : ℕ) (order : List ℕ) (stack : List Entry) → Holds mentions rest first hue order (record { cell = cell; place = from } ∷ stack) → Opens (rest cell) hue from place (Some d) →
       Holds mentions rest first hue order (record { cell = cell; place = place } ∷ stack)
   advance cell from place d order stack h o = record {
     orderly = h.orderly;
@@ -269,7 +269,7 @@ module _ (mentions : ℕ → List ℕ) (rest : ℕ → Place → List ℕ) (firs
       above (f ∷ st) k = k
 
   -- the uppermost has gone through all of them
-  pub finished : (cell : ℕ) (from place : Place) (order : List ℕ) (stack : List Entry) → Holds mentions rest first hue order (record { cell = cell; place = from } ∷ stack) → Opens (rest cell) hue from place None →
+  pub finished : (cell : ℕ) (from place : Progress) (order : List ℕ) (stack : List Entry) → Holds mentions rest first hue order (record { cell = cell; place = from } ∷ stack) → Opens (rest cell) hue from place None →
       (d : ℕ) → IsIn d (mentions cell) → hue d ≡ Ordered
   finished cell from place order stack h o d i = by_left (h.entries.0.left d i)
     where
@@ -278,7 +278,7 @@ module _ (mentions : ℕ → List ℕ) (rest : ℕ → Place → List ℕ) (firs
       by_left (inr k) = o.1 d k
 
 -- the walk begins with nothing on its stack
-pub begins : (mentions : ℕ → List ℕ) (rest : ℕ → Place → List ℕ) (first : ℕ → Colour) → MayBegin mentions first → Holds mentions rest first first [] []
+pub begins : (mentions : ℕ → List ℕ) (rest : ℕ → Progress → List ℕ) (first : ℕ → Colour) → MayBegin mentions first → Holds mentions rest first first [] []
 begins mentions rest first h = record {
   orderly = tt;
   in_order = λ c q. inr q;
@@ -295,7 +295,7 @@ begins mentions rest first h = record {
     white c (inr q) = absurd (h.no_grey c q)
 
 -- and ends with nothing on it
-pub ends : (mentions : ℕ → List ℕ) (rest : ℕ → Place → List ℕ) (first hue : ℕ → Colour) (count : ℕ) (order : List ℕ) → Holds mentions rest first hue order [] → ((c : ℕ) → c < count → hue c ≢ White) → IsFound mentions first count hue order
+pub ends : (mentions : ℕ → List ℕ) (rest : ℕ → Progress → List ℕ) (first hue : ℕ → Colour) (count : ℕ) (order : List ℕ) → Holds mentions rest first hue order [] → ((c : ℕ) → c < count → hue c ≢ White) → IsFound mentions first count hue order
 ends mentions rest first hue count order h none = record {
   each = λ c k. by_hue c (hue c) refl (none c k);
   circles = h.circles;

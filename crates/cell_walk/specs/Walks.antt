@@ -1,13 +1,22 @@
 -- What a walk is given, what it finds, and its states on the way.
-use Rattle.std.specs.Prelude.{◌≡◌, ◌≢◌, ℕ, ◌<◌, ◌≤◌, ◌⊎◌, Bool, true, false, List, [], ◌∷◌, length, slice_index_or, sum_by, Option, None, Some}
+use Rattle.std.specs.Prelude.{◌≡◌, ◌≢◌, ℕ, zero, suc, ◌-◌, ◌<◌, ◌≤◌, ◌⊎◌, Bool, true, false, List, [], ◌∷◌, length, slice_index_or, sum_by, Option, None, Some}
 use Rattle.std.specs.List.{list_any}
 use Rattle.cell_walk.specs.declared.walking.Colour.{Colour}
 use Rattle.cell_walk.specs.declared.walking.Colour.TheVariants.{White, Grey, Ordered, Circular}
 use Rattle.cell_walk.specs.declared.walking.Entry.{Entry}
-use Rattle.cell_walk.specs.declared.walking.Place.{Place}
+use Rattle.cell_walk.specs.declared.walking.Progress.{Progress}
+use Rattle.cell_walk.specs.declared.walking.Interval.{Interval}
 
-abbrev pub start_place : Place
-start_place = record { reference = 0; row = 0; col = 0 }
+abbrev pub at_start : Progress
+at_start = record { reference = 0; row = 0; col = 0 }
+
+-- so many cells, from one on, and those of a run
+abbrev pub cells_from : ℕ → ℕ → List ℕ
+cells_from first zero = []
+cells_from first (suc count) = first ∷ cells_from (suc first) count
+
+abbrev pub interval_cells : Interval → List ℕ
+interval_cells r = cells_from r.first (r.end - r.first)
 
 -- x is one of a list
 abbrev pub IsIn : {A : Type 0} → A → List A → Type 0
@@ -36,8 +45,8 @@ is_white White = true
 is_white c = false
 
 -- each mention of one of so many cells is one of them
-abbrev pub IsWithin : ℕ → (ℕ → List ℕ) → Type 0
-IsWithin count mentions = (c d : ℕ) → c < count → IsIn d (mentions c) → d < count
+abbrev pub MentionsWithin : ℕ → (ℕ → List ℕ) → Type 0
+MentionsWithin count mentions = (c d : ℕ) → c < count → IsIn d (mentions c) → d < count
 
 -- `first` is what was known of each cell when the walk began
 module _ (mentions : ℕ → List ℕ) (first : ℕ → Colour) where
@@ -75,7 +84,7 @@ IsInStack c [] = ⊥
 IsInStack c (e ∷ stack) = (e.cell ≡ c) ⊎ IsInStack c stack
 
 -- the mentions passed over are in order, and the one found isn't
-abbrev pub Opens : (Place → List ℕ) → (ℕ → Colour) → Place → Place → Option ℕ → Type 0
+abbrev pub Opens : (Progress → List ℕ) → (ℕ → Colour) → Progress → Progress → Option ℕ → Type 0
 Opens rest hue from place None = (rest place ≡ []) × ((d : ℕ) → IsIn d (rest from) → hue d ≡ Ordered)
 Opens rest hue from place (Some d) = IsIn d (rest from) × IsIn d (rest place) × (hue d ≢ Ordered) × ((x : ℕ) → IsIn x (rest from) → (hue x ≡ Ordered) ⊎ IsIn x (rest place)) × ((x : ℕ) → IsIn x (rest place) → IsIn x (rest from))
 
@@ -86,7 +95,7 @@ pub record IsMarked (old new : List Colour) (stack : List Entry) : Type 0 where
   pub others : (c : ℕ) → (IsInStack c stack → ⊥) → hue new c ≡ hue old c
   pub less : sum_by weight new ≤ sum_by weight old
 
-module _ (mentions : ℕ → List ℕ) (rest : ℕ → Place → List ℕ) (first : ℕ → Colour) where
+module _ (mentions : ℕ → List ℕ) (rest : ℕ → Progress → List ℕ) (first : ℕ → Colour) where
   -- the cell below mentions the one above
   abbrev pub IsAbove : Entry → List Entry → Type 0
   IsAbove e [] = Unit {0}

@@ -1,6 +1,6 @@
-ghost use Rattle.std.specs.Prelude.{◌+◌, [], ◌∷◌, if◌then◌else◌, nat_eq, nat_lt, refl};
+ghost use Rattle.std.specs.Prelude.{◌≡◌, ◌<◌, ◌+◌, ◌-◌, ◌^◌, [], ◌∷◌, if◌then◌else◌, nat_eq, nat_lt, refl};
 
-use crate::{Colour, Found, Mentions, Place, walk_new};
+use crate::{Colour, Found, Interval, Mentions, Progress, walk_new};
 use std::test::Fail;
 
 /// So many cells, each of which mentions the next one, and the last one the first where it is a ring.
@@ -17,8 +17,8 @@ impl Mentions for Chain {
 
     ghost from_start = { λ s cell. refl };
 
-    fn next(&self, cell: u32, place: Place) -> Option<(u32, Place)> {
-        let behind = Place {
+    fn next(&self, cell: u32, place: Progress) -> Option<(Interval, Progress)> {
+        let behind = Progress {
             reference: 1,
             row: 0,
             col: 0,
@@ -26,12 +26,24 @@ impl Mentions for Chain {
         if place.reference != 0 {
             None
         } else if cell < self.count && cell + 1 < self.count {
-            Some((cell + 1, behind))
+            Some((one(cell + 1), behind))
         } else if self.ring {
-            Some((0, behind))
+            Some((one(0), behind))
         } else {
             None
         }
+    }
+}
+
+/// A run of one cell.
+fn one(cell: u32) -> Interval
+    requires { cell < 2 ^ 32 - 1 }
+    ensures first { result.first ≡ cell }
+    ensures end { result.end ≡ cell + 1 }
+{
+    Interval {
+        first: cell,
+        end: cell + 1,
     }
 }
 

@@ -2,7 +2,7 @@
 use Rattle.std.proofs.Common.{◌≡◌, ℕ, zero, suc, ◌+◌, ◌<◌, ◌≤◌, Bool, true, false, cond, List, [], ◌∷◌, length, refl, ap, sym, ◌∙◌, subst, arith, inl, inr}
 use Rattle.std.specs.Prelude.{◌&&◌, ◌||◌, ◌⊎◌}
 use Rattle.std.specs.List.{list_any, AllByRecursion}
-use Rattle.full_calc.specs.Depth.{circular_at, value_at}
+use Rattle.full_calc.specs.Depth.{circular_at, at_depth}
 use Rattle.cell_walk.specs.Walks.{IsIn}
 
 true_or_false : (b : Bool) → (b ≡ true) ⊎ (b ≡ false)
@@ -194,7 +194,7 @@ module _ {A V : Type 0} (node : A → Bool) (precedents : A → List A) (bound :
   circular c = circular_at node precedents bound c
 
   abbrev value : ℕ → A → V
-  value n c = value_at circular fault base step n c
+  value n c = at_depth circular fault base step n c
 
   -- each one's nodes stand among those before it
   abbrev pub IsOrdered : List A → List A → Type 0
@@ -273,7 +273,7 @@ module _ {A V : Type 0} (node : A → Bool) (precedents : A → List A) (circula
     (leads : (c d : A) → live c → IsIn d (precedents c) → live d)
     (leaf : (c : A) → live c → node c ≡ false → (v : A → V) → base c ≡ step c v) where
   abbrev depth_value : ℕ → A → V
-  depth_value n c = value_at circular fault base step n c
+  depth_value n c = at_depth circular fault base step n c
 
   leaf_stays : (c : A) → live c → node c ≡ false → (m n : ℕ) → depth_value m c ≡ depth_value n c
   leaf_stays c l e zero zero = refl
@@ -336,11 +336,11 @@ module _ {A : Type 0} (node node' : A → Bool) (precedents precedents' : A → 
         (bases : (c : A) → clean c → base c ≡ base' c)
         (steps : (c : A) (v w : A → V) → clean c → AllByRecursion (λ d. v d ≡ w d) (precedents c) → step c v ≡ step' c w) where
       pub same_value : (n : ℕ) (c : A) → clean c →
-          value_at (λ d. circular_at node precedents (length cells) d) fault base step n c ≡ value_at (λ d. circular_at node' precedents' (length cells') d) fault base' step' n c
+          at_depth (λ d. circular_at node precedents (length cells) d) fault base step n c ≡ at_depth (λ d. circular_at node' precedents' (length cells') d) fault base' step' n c
       same_value zero c h = λ i. cond (same_circular c h i) fault (bases c h i)
       same_value (suc n) c h =
-          let before = value_at (λ d. circular_at node precedents (length cells) d) fault base step n in
-          let after = value_at (λ d. circular_at node' precedents' (length cells') d) fault base' step' n in
+          let before = at_depth (λ d. circular_at node precedents (length cells) d) fault base step n in
+          let after = at_depth (λ d. circular_at node' precedents' (length cells') d) fault base' step' n in
           let e = steps c before after h (for_each (λ d. before d ≡ after d) (precedents c) (λ d i. same_value n d (closed c d h i))) in
           λ i. cond (same_circular c h i) fault (e i)
 

@@ -7,14 +7,14 @@ use Rattle.cell_walk.specs.declared.walking.Colour.TheVariants.{Ordered}
 use Rattle.cell_walk.specs.Walks as walks
 use Rattle.cell_walk.specs.Walks.{Orderly}
 use Rattle.cell_walk.specs.Walks.{IsIn}
-use Rattle.std.specs.BTreeMap.{BTreeMap}
+use Rattle.sheet_graph.specs.declared.columns.FormulaCell.{FormulaCell}
 use Rattle.marked_lines.specs.Marks.{places_from, visible_places, visible_before}
 use Rattle.sheet_ops.specs.Lines.{marks}
 use Rattle.sheet_ops.specs.Fits.{IsWellFormed}
 use Rattle.sheet_ops.specs.Identity.{IdSheet}
 use Rattle.sheet_ops.specs.Placed.{PlacedSheet, placed}
 use Rattle.sheet_graph.specs.declared.graph.Node.{Node}
-use Rattle.sheet_graph.specs.Areas.{number_in}
+use Rattle.sheet_graph.specs.Columns.{number_in}
 use Rattle.sheet_graph.specs.Graphs.{is_formula_content, content_at, IsGraph}
 use Rattle.full_calc.specs.Precedents.{CellId, is_seen}
 use Rattle.full_calc.specs.Circular.{is_formula_cell, formula_cells, precedents, is_circular}
@@ -47,17 +47,17 @@ module _ (P : PlacedSheet) where
   places_of (Some p) None h = absurd (let e : false ≡ true = h in cc)
   places_of (Some p) (Some q) h = (p, q, refl, refl)
 
-module _ (X : IdSheet) (w : IsWellFormed X) (nodes : List Node) (numbers : List (BTreeMap ℕ ℕ)) (g : IsGraph (placed X) nodes (number_in numbers)) where
-  pub number_of_node : (n : ℕ) (x : Node) → slice_get nodes n ≡ Some x → number_of X (number_in numbers) (id_of X nodes numbers g n) ≡ Some n
+module _ (X : IdSheet) (w : IsWellFormed X) (nodes : List Node) (columns : List (List FormulaCell)) (g : IsGraph (placed X) nodes (number_in columns)) where
+  pub number_of_node : (n : ℕ) (x : Node) → slice_get nodes n ≡ Some x → number_of X (number_in columns) (id_of X nodes columns g n) ≡ Some n
   number_of_node n x h =
       let is = g.node n x h in
       let at = places_of (placed X) (slice_get (visible_places (marks X.rows)) x.row) (slice_get (visible_places (marks X.cols)) x.col) (ap is_formula_content is.1.formula) in
       let r = index_of_place (marks X.rows) x.row at.0 at.2 in
       let c = index_of_place (marks X.cols) x.col at.1 at.3 in
-      ap (λ (o : Option Node). number_of X (number_in numbers) (cell_of_node X nodes numbers g o)) h
-      ∙ ((λ i. number_of X (number_in numbers) (Rattle.full_calc.proofs.Positions.cell_there X (unwrap_or (at.2 i) 0, unwrap_or (at.3 i) 0)))
-      ∙ (number_at X (number_in numbers) w (at.0, at.1) (r.0, c.0)
-      ∙ ((λ i. number_in numbers (r.1 i) (c.1 i)) ∙ is.0)))
+      ap (λ (o : Option Node). number_of X (number_in columns) (cell_of_node X nodes columns g o)) h
+      ∙ ((λ i. number_of X (number_in columns) (Rattle.full_calc.proofs.Positions.cell_there X (unwrap_or (at.2 i) 0, unwrap_or (at.3 i) 0)))
+      ∙ (number_at X (number_in columns) w (at.0, at.1) (r.0, c.0)
+      ∙ ((λ i. number_in columns (r.1 i) (c.1 i)) ∙ is.0)))
 
   get_there : (ns : List Node) (n : ℕ) → n < length ns → (x : Node) × (slice_get ns n ≡ Some x)
   get_there [] n h = absurd (omega arith)
@@ -65,52 +65,52 @@ module _ (X : IdSheet) (w : IsWellFormed X) (nodes : List Node) (numbers : List 
   get_there (y ∷ ns) (suc n) h = get_there ns n (omega arith)
 
   -- each cell that the walk marked, and that mentions a marked one, is circular
-  pub marked_circular : (circle : ℕ → Bool) → ((n : ℕ) → circle n ≡ true → n < length nodes) → ((n : ℕ) → circle n ≡ true → list_any circle (mentions_in nodes numbers n) ≡ true) →
-      (n : ℕ) → circle n ≡ true → is_circular X (id_of X nodes numbers g n) ≡ true
+  pub marked_circular : (circle : ℕ → Bool) → ((n : ℕ) → circle n ≡ true → n < length nodes) → ((n : ℕ) → circle n ≡ true → list_any circle (mentions_in nodes columns n) ≡ true) →
+      (n : ℕ) → circle n ≡ true → is_circular X (id_of X nodes columns g n) ≡ true
   marked_circular circle below circles_are n h =
-      walk_circular X (id_of X nodes numbers g) (number_of X (number_in numbers)) (mentions_in nodes numbers)
-      (back X nodes numbers g) (some X nodes numbers g) (none X nodes numbers g) (leads X nodes numbers g w)
+      walk_circular X (id_of X nodes columns g) (number_of X (number_in columns)) (mentions_in nodes columns)
+      (back X nodes columns g) (some X nodes columns g) (none X nodes columns g) (leads X nodes columns g w)
       circle (λ m k. let x = get_there nodes m (below m k) in number_of_node m x.0 x.1) circles_are n h
 
-  numbers_in : (d : CellId) (m : ℕ) (cs : List CellId) → number_of X (number_in numbers) d ≡ Some m → IsIn d cs → walks.IsIn m (filter_map (number_of X (number_in numbers)) cs)
+  numbers_in : (d : CellId) (m : ℕ) (cs : List CellId) → number_of X (number_in columns) d ≡ Some m → IsIn d cs → walks.IsIn m (filter_map (number_of X (number_in columns)) cs)
   numbers_in d m [] e i = absurd i
-  numbers_in d m (c ∷ cs) e (inl p) = by_number (number_of X (number_in numbers) c) (ap (number_of X (number_in numbers)) p ∙ e)
+  numbers_in d m (c ∷ cs) e (inl p) = by_number (number_of X (number_in columns) c) (ap (number_of X (number_in columns)) p ∙ e)
     where
-      by_number : (o : Option ℕ) → o ≡ Some m → walks.IsIn m (cons_option o (filter_map (number_of X (number_in numbers)) cs))
+      by_number : (o : Option ℕ) → o ≡ Some m → walks.IsIn m (cons_option o (filter_map (number_of X (number_in columns)) cs))
       by_number None q = absurd (cc)
       by_number (Some n) q = inl (cc)
-  numbers_in d m (c ∷ cs) e (inr i) = by_number (number_of X (number_in numbers) c) (numbers_in d m cs e i)
+  numbers_in d m (c ∷ cs) e (inr i) = by_number (number_of X (number_in columns) c) (numbers_in d m cs e i)
     where
-      by_number : (o : Option ℕ) → walks.IsIn m (filter_map (number_of X (number_in numbers)) cs) → walks.IsIn m (cons_option o (filter_map (number_of X (number_in numbers)) cs))
+      by_number : (o : Option ℕ) → walks.IsIn m (filter_map (number_of X (number_in columns)) cs) → walks.IsIn m (cons_option o (filter_map (number_of X (number_in columns)) cs))
       by_number None k = k
       by_number (Some n) k = inr k
 
   -- what stands in the walk's order isn't circular, where nothing was in order at the beginning
   module _ (first : ℕ → Colour) (none_first : (m : ℕ) → first m ≡ Ordered → ⊥) where
-    ordered_here : (n : ℕ) (before : List ℕ) → n < length nodes → ((d : ℕ) → walks.IsIn d (mentions_in nodes numbers n) → walks.IsIn d before ⊎ (first d ≡ Ordered)) →
-        ((m : ℕ) → walks.IsIn m before → m < length nodes → is_circular X (id_of X nodes numbers g m) ≡ false) → is_circular X (id_of X nodes numbers g n) ≡ false
+    ordered_here : (n : ℕ) (before : List ℕ) → n < length nodes → ((d : ℕ) → walks.IsIn d (mentions_in nodes columns n) → walks.IsIn d before ⊎ (first d ≡ Ordered)) →
+        ((m : ℕ) → walks.IsIn m before → m < length nodes → is_circular X (id_of X nodes columns g m) ≡ false) → is_circular X (id_of X nodes columns g n) ≡ false
     ordered_here n before l h r =
-        sym (circles.settled (is_formula_cell X) (precedents X) (formula_cells X) (formula_in X) (id_of X nodes numbers g n))
-        ∙ and_false (is_formula_cell X (id_of X nodes numbers g n)) (list_any (λ d. is_circular X d) (precedents X (id_of X nodes numbers g n)))
-        (none_of (λ d. is_circular X d) (precedents X (id_of X nodes numbers g n))
-        (for_each (λ d. is_circular X d ≡ false) (precedents X (id_of X nodes numbers g n)) (λ d i. by_number d i (number_of X (number_in numbers) d) refl)))
+        sym (circles.settled (is_formula_cell X) (precedents X) (formula_cells X) (formula_in X) (id_of X nodes columns g n))
+        ∙ and_false (is_formula_cell X (id_of X nodes columns g n)) (list_any (λ d. is_circular X d) (precedents X (id_of X nodes columns g n)))
+        (none_of (λ d. is_circular X d) (precedents X (id_of X nodes columns g n))
+        (for_each (λ d. is_circular X d ≡ false) (precedents X (id_of X nodes columns g n)) (λ d i. by_number d i (number_of X (number_in columns) d) refl)))
       where
-        has : number_of X (number_in numbers) (id_of X nodes numbers g n) ≡ Some n
+        has : number_of X (number_in columns) (id_of X nodes columns g n) ≡ Some n
         has = let x = get_there nodes n l in number_of_node n x.0 x.1
 
-        by_place : (m : ℕ) → m < length nodes → (walks.IsIn m before ⊎ (first m ≡ Ordered)) → is_circular X (id_of X nodes numbers g m) ≡ false
+        by_place : (m : ℕ) → m < length nodes → (walks.IsIn m before ⊎ (first m ≡ Ordered)) → is_circular X (id_of X nodes columns g m) ≡ false
         by_place m k (inl i) = r m i k
         by_place m k (inr e) = absurd (none_first m e)
 
-        by_number : (d : CellId) → IsIn d (precedents X (id_of X nodes numbers g n)) → (o : Option ℕ) → number_of X (number_in numbers) d ≡ o → is_circular X d ≡ false
-        by_number d i None e = leaf_known X d (none X nodes numbers g d e)
+        by_number : (d : CellId) → IsIn d (precedents X (id_of X nodes columns g n)) → (o : Option ℕ) → number_of X (number_in columns) d ≡ o → is_circular X d ≡ false
+        by_number d i None e = leaf_known X d (none X nodes columns g d e)
         by_number d i (Some m) e =
-            let j : walks.IsIn m (mentions_in nodes numbers n) = subst (λ (ms : List ℕ). walks.IsIn m ms) (sym (leads X nodes numbers g w n has)) (numbers_in d m (precedents X (id_of X nodes numbers g n)) e i) in
-            subst (λ (c : CellId). is_circular X c ≡ false) (back X nodes numbers g d m e) (by_place m (mentions_within (placed X) nodes numbers g n m l j) (h m j))
+            let j : walks.IsIn m (mentions_in nodes columns n) = subst (λ (ms : List ℕ). walks.IsIn m ms) (sym (leads X nodes columns g w n has)) (numbers_in d m (precedents X (id_of X nodes columns g n)) e i) in
+            subst (λ (c : CellId). is_circular X c ≡ false) (back X nodes columns g d m e) (by_place m (mentions_within (placed X) nodes columns g n m l j) (h m j))
 
-    pub ordered_free : (order : List ℕ) → Orderly (mentions_in nodes numbers) first order → (n : ℕ) → walks.IsIn n order → n < length nodes → is_circular X (id_of X nodes numbers g n) ≡ false
+    pub ordered_free : (order : List ℕ) → Orderly (mentions_in nodes columns) first order → (n : ℕ) → walks.IsIn n order → n < length nodes → is_circular X (id_of X nodes columns g n) ≡ false
     ordered_free [] h n i l = absurd i
     ordered_free (x ∷ before) h n (inr i) l = ordered_free before h.1 n i l
     ordered_free (x ∷ before) h n (inl e) l =
         let k : x < length nodes = omega (arith, e, l) in
-        subst (λ m. is_circular X (id_of X nodes numbers g m) ≡ false) e (ordered_here x before k h.0 (λ m i j. ordered_free before h.1 m i j))
+        subst (λ m. is_circular X (id_of X nodes columns g m) ≡ false) e (ordered_here x before k h.0 (λ m i j. ordered_free before h.1 m i j))

@@ -7,6 +7,7 @@ pub mod Counts
 pub mod Edges
 pub mod Evaluating
 pub mod Leads
+pub mod Listed
 pub mod Looking
 pub mod Node
 pub mod Numbering

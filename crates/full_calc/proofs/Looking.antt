@@ -1,12 +1,15 @@
 -- What a look over a sheet sees, by visible indexes.
 use Rattle.std.proofs.Common.{◌≡◌, ℕ, zero, suc, ◌+◌, ◌<◌, ◌≤◌, Bool, true, false, cond, List, [], ◌∷◌, length, map, refl, ap, sym, ◌∙◌, subst, arith, Some, None, Option}
-use Rattle.std.specs.Prelude.{IfSome, unwrap_or, ◌&&◌, ◌-◌, not, nat_le, slice_index, slice_index_or, filter}
+use Rattle.std.specs.Prelude.{IfSome, option_map, unwrap_or, ◌&&◌, ◌-◌, not, nat_le, slice_index, slice_index_or, filter}
 use Rattle.std.proofs.lemmas.List.{length-map}
+use Rattle.ss_base.specs.declared.types.Size.{Size}
+use Rattle.ss_base.specs.declared.types.Span.{Span}
 use Rattle.ss_base.specs.declared.types.Spot.{Spot}
+use Rattle.std.specs.List.{range_with_len}
 use Rattle.sheet_value.specs.declared.value.Value.{Value}
 use Rattle.sheet_value.specs.declared.value.Value.TheVariants as value
-use Rattle.sheet_value.specs.Environment.{cell_value, size_of_lines}
-use Rattle.sheet_value.specs.Tables.{Table, value_at, filled}
+use Rattle.sheet_value.specs.Environment.{cell_value, size_of_lines, range_values, range_table}
+use Rattle.sheet_value.specs.Tables.{Table, value_at, filled, part_of}
 use Rattle.marked_lines.specs.Marks.{visible_before, span_of}
 use Rattle.marked_lines.proofs.Indexes.{span_order}
 use Rattle.marked_lines.specs.Marks.{visible_of}
@@ -55,58 +58,33 @@ length-indexes : (a n : ℕ) → length (indexes_from a n) ≡ n
 length-indexes a zero = refl
 length-indexes a (suc n) = ap suc (length-indexes (suc a) n)
 
-pub length-between : (marks : List Bool) (first last : ℕ) (s : ℕ × ℕ) → Some s ≡ span_of marks first last → length (places_between marks first last) ≡ s.1 + 1 - s.0
+length-between : (marks : List Bool) (first last : ℕ) (s : ℕ × ℕ) → Some s ≡ span_of marks first last → length (places_between marks first last) ≡ s.1 + 1 - s.0
 length-between marks first last s h =
     sym (length-map (places_between marks first last) (visible_before marks))
     ∙ (ap (λ (ns : List ℕ). length ns) (lines_of_span marks first last ∙ ap span_lines (sym h))
     ∙ length-indexes s.0 (s.1 + 1 - s.0))
 
-pub none_between : (marks : List Bool) (first last : ℕ) → None ≡ span_of marks first last → length (places_between marks first last) ≡ 0
+none_between : (marks : List Bool) (first last : ℕ) → None ≡ span_of marks first last → length (places_between marks first last) ≡ 0
 none_between marks first last h =
     sym (length-map (places_between marks first last) (visible_before marks))
     ∙ ap (λ (ns : List ℕ). length ns) (lines_of_span marks first last ∙ ap span_lines (sym h))
 
-index_map : (f : ℕ → ℕ) (xs : List ℕ) (i : ℕ) → i < length xs → slice_index (map f xs) i ≡ f (slice_index xs i)
-index_map f [] i h = absurd (omega arith)
-index_map f (x ∷ xs) zero h = refl
-index_map f (x ∷ xs) (suc i) h = index_map f xs i (omega arith)
-
-index_from : (a n i : ℕ) → i < n → slice_index (indexes_from a n) i ≡ a + i
-index_from a zero i h = absurd (omega arith)
-index_from a (suc n) zero h = let q : a ≡ a + 0 = omega arith in q
-index_from a (suc n) (suc i) h = index_from (suc a) n i (omega arith) ∙ (let q : suc a + i ≡ a + suc i = omega arith in q)
-
-pub index_between : (marks : List Bool) (first last i : ℕ) (s : ℕ × ℕ) → Some s ≡ span_of marks first last → i < length (places_between marks first last) → visible_before marks (slice_index (places_between marks first last) i) ≡ s.0 + i
-index_between marks first last i s h k =
-    sym (index_map (visible_before marks) (places_between marks first last) i k)
-    ∙ (ap (λ (ns : List ℕ). slice_index ns i) (lines_of_span marks first last ∙ ap span_lines (sym h))
-    ∙ index_from s.0 (s.1 + 1 - s.0) i (subst (λ n. i < n) (length-between marks first last s h) k))
-
-pub no_rows : (rows cols : List ℕ) → length rows ≡ 0 → size_of_lines rows cols ≡ None
+no_rows : (rows cols : List ℕ) → length rows ≡ 0 → size_of_lines rows cols ≡ None
 no_rows [] cols h = refl
 no_rows (r ∷ rows) cols h = absurd (omega arith)
 
-pub no_cols : (rows cols : List ℕ) → length cols ≡ 0 → size_of_lines rows cols ≡ None
+no_cols : (rows cols : List ℕ) → length cols ≡ 0 → size_of_lines rows cols ≡ None
 no_cols [] cols h = refl
 no_cols (r ∷ rows) [] h = refl
 no_cols (r ∷ rows) (c ∷ cols) h = absurd (omega arith)
 
-pub span_up : (marks : List Bool) (first last : ℕ) (s : ℕ × ℕ) → Some s ≡ span_of marks first last → s.0 ≤ s.1
+span_up : (marks : List Bool) (first last : ℕ) (s : ℕ × ℕ) → Some s ≡ span_of marks first last → s.0 ≤ s.1
 span_up marks first last s h = (subst (λ (o : Option (ℕ × ℕ)). IfSome o (λ s. (s.0 ≤ s.1) × (s.1 < Rattle.marked_lines.specs.Marks.visible_count marks))) (sym h) (span_order marks first last)).0
-
-pub line_inside : (marks : List Bool) (first last i : ℕ) (s : ℕ × ℕ) → Some s ≡ span_of marks first last → i < length (places_between marks first last) → s.0 + i ≤ s.1
-line_inside marks first last i s h k =
-    let l = length-between marks first last s h in
-    let u = span_up marks first last s h in
-    omega (arith, k, l, u)
 
 pub some_line : (marks : List Bool) (first last n : ℕ) (s : ℕ × ℕ) → Some s ≡ span_of marks first last → n ≡ s.1 + 1 - s.0 → (n ≡ length (places_between marks first last)) × (n ≡ 0 → ⊥)
 some_line marks first last n s h e =
     let u = span_up marks first last s h in
     (e ∙ sym (length-between marks first last s h), λ z. omega (arith, e, z, u))
-
-pub none_inside : (marks : List Bool) (first last i : ℕ) → None ≡ span_of marks first last → i < length (places_between marks first last) → ⊥
-none_inside marks first last i h k = let z = none_between marks first last h in omega (arith, k, z)
 
 filled-kept : (v : Value) → unwrap_or (filled v) value.Empty ≡ v
 filled-kept value.Empty = refl
@@ -122,6 +100,52 @@ by_length [] cols some_rows some_cols = absurd (some_rows refl)
 by_length (r ∷ rows) [] some_rows some_cols = absurd (some_cols refl)
 by_length (r ∷ rows) (c ∷ cols) some_rows some_cols = refl
 
-pub shape_of_lines : (rows cols : List ℕ) (r c : ℕ) → r ≡ length rows → c ≡ length cols → (r ≡ 0 → ⊥) → (c ≡ 0 → ⊥) → Some (record { rows = r; cols = c }) ≡ size_of_lines rows cols
+shape_of_lines : (rows cols : List ℕ) (r c : ℕ) → r ≡ length rows → c ≡ length cols → (r ≡ 0 → ⊥) → (c ≡ 0 → ⊥) → Some (record { rows = r; cols = c }) ≡ size_of_lines rows cols
 shape_of_lines rows cols r c er ec some_rows some_cols =
     (λ i. Some (record { rows = er i; cols = ec i })) ∙ by_length rows cols (λ z. some_rows (er ∙ z)) (λ z. some_cols (ec ∙ z))
+
+-- ---- ranges
+map_map : {A : Type 0} (f : ℕ → ℕ) (g : ℕ → A) (xs : List ℕ) → map g (map f xs) ≡ map (λ x. g (f x)) xs
+map_map f g [] = refl
+map_map f g (x ∷ xs) = ap (λ ys. g (f x) ∷ ys) (map_map f g xs)
+
+counting : (first count : ℕ) → indexes_from first count ≡ range_with_len first count
+counting first zero = refl
+counting first (suc count) = ap (λ ns. first ∷ ns) (counting (suc first) count ∙ ap (λ (n : ℕ). range_with_len n count) (let z : suc first ≡ first + 1 = omega arith in z))
+
+lines_there : (marks : List Bool) (first last n : ℕ) (s : ℕ × ℕ) → Some s ≡ span_of marks first last → n ≡ s.1 + 1 - s.0 → range_with_len s.0 n ≡ map (visible_before marks) (places_between marks first last)
+lines_there marks first last n s h e =
+    ap (range_with_len s.0) e
+    ∙ (sym (counting s.0 (s.1 + 1 - s.0))
+    ∙ sym (lines_of_span marks first last ∙ ap span_lines (sym h)))
+
+module _ (rows cols : List Bool) (T : Table) (span : Span) where
+  abbrev shaped : Option Size → Option Table
+  shaped o = option_map (λ size. record { size = size; rows = range_values (look_environment rows cols T) span }) o
+
+  pub range_there : (r c : ℕ × ℕ) (size : Size) → Some r ≡ span_of rows span.top span.bottom → Some c ≡ span_of cols span.left span.right → size.rows ≡ r.1 + 1 - r.0 → size.cols ≡ c.1 + 1 - c.0 →
+      Some (part_of T r.0 c.0 size) ≡ range_table (look_environment rows cols T) span
+  range_there r c size h k er ec =
+      (λ i. Some (record { size = size; rows = values i }))
+      ∙ ap shaped (shape_of_lines (places_between rows span.top span.bottom) (places_between cols span.left span.right) size.rows size.cols down.0 along.0 down.1 along.1)
+    where
+      down : (size.rows ≡ length (places_between rows span.top span.bottom)) × (size.rows ≡ 0 → ⊥)
+      down = some_line rows span.top span.bottom size.rows r h er
+
+      along : (size.cols ≡ length (places_between cols span.left span.right)) × (size.cols ≡ 0 → ⊥)
+      along = some_line cols span.left span.right size.cols c k ec
+
+      in_row : (row : ℕ) → map (λ col. value_at T row col) (range_with_len c.0 size.cols) ≡ map (λ q. value_at T row (visible_before cols q)) (places_between cols span.left span.right)
+      in_row row = ap (map (λ col. value_at T row col)) (lines_there cols span.left span.right size.cols c k ec) ∙ map_map (visible_before cols) (λ col. value_at T row col) (places_between cols span.left span.right)
+
+      values : (part_of T r.0 c.0 size).rows ≡ range_values (look_environment rows cols T) span
+      values =
+          (λ i. map (λ row. in_row row i) (range_with_len r.0 size.rows))
+          ∙ (ap (map (λ row. map (λ q. value_at T row (visible_before cols q)) (places_between cols span.left span.right))) (lines_there rows span.top span.bottom size.rows r h er)
+          ∙ map_map (visible_before rows) (λ row. map (λ q. value_at T row (visible_before cols q)) (places_between cols span.left span.right)) (places_between rows span.top span.bottom))
+
+  pub rows_lost : None ≡ span_of rows span.top span.bottom → None ≡ range_table (look_environment rows cols T) span
+  rows_lost h = ap shaped (sym (no_rows (places_between rows span.top span.bottom) (places_between cols span.left span.right) (none_between rows span.top span.bottom h)))
+
+  pub cols_lost : None ≡ span_of cols span.left span.right → None ≡ range_table (look_environment rows cols T) span
+  cols_lost h = ap shaped (sym (no_cols (places_between rows span.top span.bottom) (places_between cols span.left span.right) (none_between cols span.left span.right h)))

@@ -1,7 +1,7 @@
 -- The graph of a sheet by positions is that of its cells by identity.
 use Rattle.std.proofs.Common.{◌≡◌, ℕ, zero, suc, ◌+◌, Bool, true, false, cond, List, [], ◌∷◌, refl, ap, sym, ◌∙◌, subst, arith, Some, None, Option}
 use Rattle.std.specs.Prelude.{◌&&◌, unwrap_or, slice_get, flat_map, filter_map}
-use Rattle.std.specs.BTreeMap.{BTreeMap}
+use Rattle.sheet_graph.specs.declared.columns.FormulaCell.{FormulaCell}
 use Rattle.ss_base.specs.declared.types.Spot.{Spot}
 use Rattle.ss_base.specs.declared.types.Span.{Span}
 use Rattle.formula_tree.specs.Tree.{Tree, rename_tree}
@@ -14,7 +14,8 @@ use Rattle.sheet_ops.specs.Naming.{locate_cell, locate_range, locate_content}
 use Rattle.sheet_ops.specs.Placed.{placed}
 use Rattle.sheet_ops.proofs.Ids.{both_true}
 use Rattle.sheet_graph.specs.declared.graph.Node.{Node}
-use Rattle.sheet_graph.specs.Areas.{number_in, in_area, areas_in}
+use Rattle.sheet_graph.specs.Areas.{in_area, areas_in}
+use Rattle.sheet_graph.specs.Columns.{number_in}
 use Rattle.sheet_graph.specs.Graphs.{is_formula_content, content_at, content_seen, IsGraph}
 use Rattle.sheet_graph.proofs.Lists.{areas_found}
 use Rattle.full_calc.specs.Precedents.{CellId, is_live, is_live_cell, mentioned, is_seen}
@@ -36,7 +37,7 @@ index_from o (false ∷ ms) (suc p) h = index_from (suc o) ms p h ∙ ap Some (l
 pub place_of_index : (ms : List Bool) (p : ℕ) → is_seen ms p ≡ true → slice_get (visible_places ms) (visible_before ms p) ≡ Some p
 place_of_index ms p h = index_from 0 ms p h ∙ ap Some (let q : 0 + p ≡ p = omega arith in q)
 
-module _ (X : IdSheet) (nodes : List Node) (numbers : List (BTreeMap ℕ ℕ)) (g : IsGraph (placed X) nodes (number_in numbers)) where
+module _ (X : IdSheet) (nodes : List Node) (columns : List (List FormulaCell)) (g : IsGraph (placed X) nodes (number_in columns)) where
   abbrev rows : List Bool
   rows = marks X.rows
 
@@ -89,54 +90,54 @@ module _ (X : IdSheet) (nodes : List Node) (numbers : List (BTreeMap ℕ ℕ)) (
   formula_located (formula t) = refl
 
   -- what has a number
-  pub numbered : (c : CellId) (n : ℕ) → number_of X (number_in numbers) c ≡ Some n → (is_live_cell X c ≡ true) × (number_in numbers (row_index c) (col_index c) ≡ Some n)
+  pub numbered : (c : CellId) (n : ℕ) → number_of X (number_in columns) c ≡ Some n → (is_live_cell X c ≡ true) × (number_in columns (row_index c) (col_index c) ≡ Some n)
   numbered c n h = by_live (is_live_cell X c) refl h
     where
-      by_live : (b : Bool) → is_live_cell X c ≡ b → cond b (number_in numbers (row_index c) (col_index c)) None ≡ Some n → (is_live_cell X c ≡ true) × (number_in numbers (row_index c) (col_index c) ≡ Some n)
+      by_live : (b : Bool) → is_live_cell X c ≡ b → cond b (number_in columns (row_index c) (col_index c)) None ≡ Some n → (is_live_cell X c ≡ true) × (number_in columns (row_index c) (col_index c) ≡ Some n)
       by_live true e k = (e, k)
       by_live false e k = absurd (let q : None ≡ Some n = k in cc)
 
-  pub back : (c : CellId) (n : ℕ) → number_of X (number_in numbers) c ≡ Some n → id_of n ≡ c
+  pub back : (c : CellId) (n : ℕ) → number_of X (number_in columns) c ≡ Some n → id_of n ≡ c
   back c n h =
       let a = numbered c n h in
       let x = g.back (row_index c) (col_index c) n a.1 in
       ap cell_of_node x.1 ∙ cell_back c a.0 x.0 x.2 x.3
 
   -- the node of a number, and its content
-  pub node_content : (c : CellId) (n : ℕ) → number_of X (number_in numbers) c ≡ Some n → (x : Node) × (slice_get nodes n ≡ Some x) × (locate_content X (X.cells c.row c.col) ≡ content.Formula x.formula)
+  pub node_content : (c : CellId) (n : ℕ) → number_of X (number_in columns) c ≡ Some n → (x : Node) × (slice_get nodes n ≡ Some x) × (locate_content X (X.cells c.row c.col) ≡ content.Formula x.formula)
   node_content c n h =
       let a = numbered c n h in
       let x = g.back (row_index c) (col_index c) n a.1 in
       let is = (g.node n x.0 x.1).1 in
       (x.0, x.1, sym (content_of_cell c a.0) ∙ ((λ i. content_seen (placed X) (sym x.2 i) (sym x.3 i)) ∙ is.formula))
 
-  pub some : (c : CellId) (n : ℕ) → number_of X (number_in numbers) c ≡ Some n → is_formula_cell X c ≡ true
+  pub some : (c : CellId) (n : ℕ) → number_of X (number_in columns) c ≡ Some n → is_formula_cell X c ≡ true
   some c n h =
       let x = node_content c n h in
       let f : is_formula (X.cells c.row c.col) ≡ true = sym (formula_located (X.cells c.row c.col)) ∙ ap is_formula_content x.2 in
       λ i. (numbered c n h).0 i && f i
 
-  pub none : (c : CellId) → number_of X (number_in numbers) c ≡ None → is_formula_cell X c ≡ false
+  pub none : (c : CellId) → number_of X (number_in columns) c ≡ None → is_formula_cell X c ≡ false
   none c h = by_live (is_live_cell X c) refl h
     where
-      by_live : (b : Bool) → is_live_cell X c ≡ b → cond b (number_in numbers (row_index c) (col_index c)) None ≡ None → is_formula_cell X c ≡ false
+      by_live : (b : Bool) → is_live_cell X c ≡ b → cond b (number_in columns (row_index c) (col_index c)) None ≡ None → is_formula_cell X c ≡ false
       by_live false e k = ap (λ b. b && is_formula (X.cells c.row c.col)) e
       by_live true e k =
           ap (λ b. b && is_formula (X.cells c.row c.col)) e
           ∙ (sym (formula_located (X.cells c.row c.col))
           ∙ (ap is_formula_content (sym (content_of_cell c e)) ∙ g.none (row_index c) (col_index c) tt k))
 
-  pub leads : IsWellFormed X → (n : ℕ) → number_of X (number_in numbers) (id_of n) ≡ Some n → mentions_in nodes numbers n ≡ filter_map (number_of X (number_in numbers)) (precedents X (id_of n))
+  pub leads : IsWellFormed X → (n : ℕ) → number_of X (number_in columns) (id_of n) ≡ Some n → mentions_in nodes columns n ≡ filter_map (number_of X (number_in columns)) (precedents X (id_of n))
   leads w n h =
       let x = node_content (id_of n) n h in
       let is = (g.node n x.0 x.1).1 in
-      ap (flat_map (in_area (number_in numbers))) (areas_found nodes n x.0 x.1 ∙ is.areas)
+      ap (flat_map (in_area (number_in columns))) (areas_found nodes n x.0 x.1 ∙ is.areas)
       ∙ by_content x.0.formula (X.cells (id_of n).row (id_of n).col) x.2
     where
-      by_content : (t : Tree Spot Span) (k : IdContent) → locate_content X k ≡ content.Formula t → flat_map (in_area (number_in numbers)) (areas_in rows cols t) ≡ filter_map (number_of X (number_in numbers)) (content_precedents X k)
+      by_content : (t : Tree Spot Span) (k : IdContent) → locate_content X k ≡ content.Formula t → flat_map (in_area (number_in columns)) (areas_in rows cols t) ≡ filter_map (number_of X (number_in columns)) (content_precedents X k)
       by_content t blank e = absurd (let q : false ≡ true = ap is_formula_content e in cc)
       by_content t (number z) e = absurd (let q : false ≡ true = ap is_formula_content e in cc)
       by_content t (text s) e = absurd (let q : false ≡ true = ap is_formula_content e in cc)
       by_content t (formula s) e =
           let same : rename_tree (locate_cell X) (locate_range X) s ≡ t = cc in
-          subst (λ (u : Tree Spot Span). flat_map (in_area (number_in numbers)) (areas_in rows cols u) ≡ filter_map (number_of X (number_in numbers)) (mentioned X s)) same (numbers_lead X (number_in numbers) w s)
+          subst (λ (u : Tree Spot Span). flat_map (in_area (number_in columns)) (areas_in rows cols u) ≡ filter_map (number_of X (number_in columns)) (mentioned X s)) same (numbers_lead X (number_in columns) w s)

@@ -12,4 +12,4 @@ pub computed_values : (P : PlacedSheet) (T : Table) → IsComputed P T → (X : 
 computed_values P T h X w e = right (subst (λ (Q : PlacedSheet). IsComputed Q T) (sym e) h)
   where
     right : IsComputed (placed X) T → T ≡ value_table X
-    right k = computed_right X w k.nodes k.numbers k.graph k.colours k.order k.base T k.len k.found k.constants k.values
+    right k = computed_right X w k.nodes k.columns k.graph k.colours k.order k.base T k.len k.found k.constants k.values

@@ -13,7 +13,7 @@ use Rattle.sheet_grid.specs.Cells.{visible_size}
 use Rattle.sheet_graph.specs.Cursor.{less_or_not}
 use Rattle.sheet_graph.specs.Graphs.{content_at, content_seen, HoldsFilled}
 use Rattle.sheet_graph.proofs.Building.{get_past, in_push}
-use Rattle.full_calc.specs.Shown.{IsShaped}
+use Rattle.full_calc.specs.Shown.{HasItsSize}
 use Rattle.full_calc.specs.Evaluated.{constant_of}
 use Rattle.full_calc.specs.Computed.{HasConstants}
 use Rattle.full_calc.proofs.Tables.{shaped_empty, empty_value, value_put, value_other}
@@ -38,7 +38,7 @@ module _ (P : PlacedSheet) where
     pub none_yet : (T : Table) → ((c : ℕ) → value_at T row c ≡ value.Empty) → HasRow T []
     none_yet T h c = inr (h c, λ i. i)
 
-    pub row_more : (T S : Table) (cols : List ℕ) (i : ℕ) → IsShaped T → row < T.size.rows → slice_index_or cols i 0 < T.size.cols → i < length cols → HasRow T (take i cols) →
+    pub row_more : (T S : Table) (cols : List ℕ) (i : ℕ) → HasItsSize T → row < T.size.rows → slice_index_or cols i 0 < T.size.cols → i < length cols → HasRow T (take i cols) →
         S ≡ with_value T row (slice_index_or cols i 0) (constant_of (content_seen P row (slice_index_or cols i 0))) → HasRow S (take (i + 1) cols)
     row_more T S cols i shape h k l has e =
         subst (λ (U : Table). HasRow U (take (i + 1) cols)) (sym e) (subst (λ (cs : List ℕ). HasRow (with_value T row (slice_index_or cols i 0) (constant_of (content_seen P row (slice_index_or cols i 0)))) cs) (sym (take_more cols i 0 l)) here)
@@ -76,7 +76,7 @@ module _ (P : PlacedSheet) where
   -- the rows before one have their constants, and the others nothing
   pub record HasRows (row : ℕ) (T : Table) : Type 0 where
     pub size : T.size ≡ visible_size P
-    pub shape : IsShaped T
+    pub shape : HasItsSize T
     pub done : (r c : ℕ) → r < row → value_at T r c ≡ constant_of (content_seen P r c)
     pub left : (r c : ℕ) → row ≤ r → value_at T r c ≡ value.Empty
 
@@ -88,7 +88,7 @@ module _ (P : PlacedSheet) where
     left = λ r c h. empty_value (visible_size P) r c;
   })
 
-  pub one_row_more : (row : ℕ) (T S : Table) → HasRows row T → S.size ≡ T.size → IsShaped S → ((c : ℕ) → value_at S row c ≡ constant_of (content_seen P row c)) → ((r c : ℕ) → r ≢ row → value_at S r c ≡ value_at T r c) → HasRows (row + 1) S
+  pub one_row_more : (row : ℕ) (T S : Table) → HasRows row T → S.size ≡ T.size → HasItsSize S → ((c : ℕ) → value_at S row c ≡ constant_of (content_seen P row c)) → ((r c : ℕ) → r ≢ row → value_at S r c ≡ value_at T r c) → HasRows (row + 1) S
   one_row_more row T S h size shape here others = record {
     size = size ∙ h.size;
     shape = shape;

@@ -2,7 +2,7 @@
 use Rattle.std.proofs.Common.{◌≡◌, ℕ, zero, suc, ◌<◌, ◌≤◌, Bool, true, false, cond, List, [], ◌∷◌, ◌++◌, length, refl, ap, sym, ◌∙◌, subst, arith, inl, inr, Some, None, Option}
 use Rattle.std.specs.Prelude.{◌⊎◌, ◌&&◌, flat_map, reverse, slice_get, unwrap_or}
 use Rattle.std.specs.List.{list_any}
-use Rattle.std.specs.BTreeMap.{BTreeMap}
+use Rattle.sheet_graph.specs.declared.columns.FormulaCell.{FormulaCell}
 use Rattle.std.proofs.lemmas.List.{reverse-append, reverse-reverse}
 use Rattle.ss_base.specs.declared.types.CalcErr.TheVariants as fault
 use Rattle.ss_base.specs.declared.types.Size.{Size}
@@ -23,7 +23,8 @@ use Rattle.cell_walk.specs.Walks.{IsIn, hue, is_circle, Orderly, IsFound}
 use Rattle.cell_walk.proofs.Hues.{hue_within}
 use Rattle.sheet_grid.specs.Cells.{visible_size}
 use Rattle.sheet_graph.specs.declared.graph.Node.{Node}
-use Rattle.sheet_graph.specs.Areas.{number_in, in_area}
+use Rattle.sheet_graph.specs.Areas.{in_area}
+use Rattle.sheet_graph.specs.Columns.{number_in}
 use Rattle.sheet_graph.specs.Cursor.{less_or_not}
 use Rattle.sheet_graph.specs.Graphs.{mentions_in, is_formula_content, content_at, content_seen, IsGraph}
 use Rattle.sheet_graph.proofs.Building.{get_past}
@@ -35,7 +36,7 @@ use Rattle.full_calc.specs.Circular.{is_formula, is_formula_cell, formula_cells,
 use Rattle.full_calc.specs.Values.{content_value, formula_result, value_at_depth, value_of, value_table}
 use Rattle.full_calc.specs.Positions.{places_in}
 use Rattle.full_calc.specs.Looks.{look_environment}
-use Rattle.full_calc.specs.Shown.{place_seen, cell_shown, value_shown, IsShaped}
+use Rattle.full_calc.specs.Shown.{visible_position, cell_shown, value_shown, HasItsSize}
 use Rattle.full_calc.specs.Evaluated.{constant_of, circled_node, circled, evaluated_node, evaluated, AreIn}
 use Rattle.full_calc.specs.Computed.{HasConstants}
 use Rattle.full_calc.proofs.Circles.{for_each, at_each}
@@ -119,7 +120,7 @@ module _ (X : IdSheet) where
 
 module _ (X : IdSheet) (w : IsWellFormed X) where
   -- a visible line, and the position where it stands
-  line_there : (axis : Axis) (v : ℕ) → v < length (visible_places (marks axis)) → (p : ℕ) × (slice_get (visible_places (marks axis)) v ≡ Some p) × (is_seen (marks axis) p ≡ true) × (place_seen (marks axis) v ≡ p)
+  line_there : (axis : Axis) (v : ℕ) → v < length (visible_places (marks axis)) → (p : ℕ) × (slice_get (visible_places (marks axis)) v ≡ Some p) × (is_seen (marks axis) p ≡ true) × (visible_position (marks axis) v ≡ p)
   line_there axis v h =
       let x = get_there (visible_places (marks axis)) v h in
       (x.0, x.1, (index_of_place (marks axis) v x.0 x.1).0, ap (λ (o : Option ℕ). unwrap_or o 0) x.1)
@@ -143,24 +144,24 @@ module _ (X : IdSheet) (w : IsWellFormed X) where
       ∙ (sym (value_step X (cell_there X (p, q)) live (leaf_known X (cell_there X (p, q)) no_formula))
       ∙ (λ i. value_of X (record { row = rec_at X.rows (sym row.3 i); col = rec_at X.cols (sym col.3 i) })))))
 
-module _ (X : IdSheet) (w : IsWellFormed X) (nodes : List Node) (numbers : List (BTreeMap ℕ ℕ)) (g : IsGraph (placed X) nodes (number_in numbers)) where
+module _ (X : IdSheet) (w : IsWellFormed X) (nodes : List Node) (columns : List (List FormulaCell)) (g : IsGraph (placed X) nodes (number_in columns)) where
   abbrev W : ℕ → ℕ → Value
   W = value_shown X
 
   abbrev Fits : Table → Type 0
-  Fits T = IsShaped T × (T.size ≡ visible_size (placed X))
+  Fits T = HasItsSize T × (T.size ≡ visible_size (placed X))
 
   abbrev Keeps : Table → Table → Type 0
   Keeps T S = (r c : ℕ) → value_at T r c ≡ W r c → value_at S r c ≡ W r c
 
   node_row : (n : ℕ) (x : Node) → slice_get nodes n ≡ Some x → (T : Table) → T.size ≡ visible_size (placed X) → x.row < T.size.rows
-  node_row n x e T s = subst (λ (z : Size). x.row < z.rows) (sym s) (nodes_in (placed X) nodes (number_in numbers) g n x e).0
+  node_row n x e T s = subst (λ (z : Size). x.row < z.rows) (sym s) (nodes_in (placed X) nodes (number_in columns) g n x e).0
 
   node_col : (n : ℕ) (x : Node) → slice_get nodes n ≡ Some x → (T : Table) → T.size ≡ visible_size (placed X) → x.col < T.size.cols
-  node_col n x e T s = subst (λ (z : Size). x.col < z.cols) (sym s) (nodes_in (placed X) nodes (number_in numbers) g n x e).1
+  node_col n x e T s = subst (λ (z : Size). x.col < z.cols) (sym s) (nodes_in (placed X) nodes (number_in columns) g n x e).1
 
-  id_shown : (n : ℕ) (x : Node) → slice_get nodes n ≡ Some x → id_of X nodes numbers g n ≡ cell_shown X x.row x.col
-  id_shown n x e = ap (cell_of_node X nodes numbers g) e
+  id_shown : (n : ℕ) (x : Node) → slice_get nodes n ≡ Some x → id_of X nodes columns g n ≡ cell_shown X x.row x.col
+  id_shown n x e = ap (cell_of_node X nodes columns g) e
 
   -- the right value is put at a node
   module _ (n : ℕ) (x : Node) (e : slice_get nodes n ≡ Some x) (T : Table) (f : Fits T) (v : Value) (right : v ≡ W x.row x.col) where
@@ -175,9 +176,9 @@ module _ (X : IdSheet) (w : IsWellFormed X) (nodes : List Node) (numbers : List 
         (value_put T x.row x.col v f.0 (node_row n x e T f.1) (node_col n x e T f.1) ∙ right)
 
   -- ---- the circular cells
-  module _ (colours : List Colour) (len : length colours ≡ length nodes) (circles : (n : ℕ) → hue colours n ≡ Circular → list_any (λ d. is_circle (hue colours d)) (mentions_in nodes numbers n) ≡ true) where
-    marked : (n : ℕ) → is_circle (hue colours n) ≡ true → is_circular X (id_of X nodes numbers g n) ≡ true
-    marked n h = marked_circular X w nodes numbers g (λ m. is_circle (hue colours m)) below (λ m k. circles m (circle_is (hue colours m) k)) n h
+  module _ (colours : List Colour) (len : length colours ≡ length nodes) (circles : (n : ℕ) → hue colours n ≡ Circular → list_any (λ d. is_circle (hue colours d)) (mentions_in nodes columns n) ≡ true) where
+    marked : (n : ℕ) → is_circle (hue colours n) ≡ true → is_circular X (id_of X nodes columns g n) ≡ true
+    marked n h = marked_circular X w nodes columns g (λ m. is_circle (hue colours m)) below (λ m k. circles m (circle_is (hue colours m) k)) n h
       where
         below : (m : ℕ) → is_circle (hue colours m) ≡ true → m < length nodes
         below m k = let l = hue_within colours m (λ q. let clash : false ≡ true = sym (ap is_circle q) ∙ k in cc) in let e = len in omega (arith, l, e)
@@ -203,7 +204,7 @@ module _ (X : IdSheet) (w : IsWellFormed X) (nodes : List Node) (numbers : List 
     )
       where
         right : value.Err fault.Circ ≡ W y.row y.col
-        right = sym (circ_value X (id_of X nodes numbers g k) (marked k e)) ∙ ap (value_of X) (id_shown k y q)
+        right = sym (circ_value X (id_of X nodes columns g k) (marked k e)) ∙ ap (value_of X) (id_shown k y q)
 
         by_last : (n : ℕ) (x : Node) → is_circle (hue colours n) ≡ true → slice_get nodes n ≡ Some x → ((n < k) ⊎ (k ≤ n)) → n < suc k → value_at (with_value S y.row y.col (value.Err fault.Circ)) x.row x.col ≡ W x.row x.col
         by_last n x m h (inl l) j = put_keeps k y q S r.0 (value.Err fault.Circ) right x.row x.col (r.2 n x l m h)
@@ -214,7 +215,7 @@ module _ (X : IdSheet) (w : IsWellFormed X) (nodes : List Node) (numbers : List 
     circled_right (suc k) T f = circled_next k T (circled nodes colours k T) (circled_right k T f) (is_circle (hue colours k)) refl (slice_get nodes k) refl
 
   -- ---- the others in their order
-  module _ (T : Table) (f : Fits T) (leaf : (r c : ℕ) → r < length (visible_places (marks X.rows)) → c < length (visible_places (marks X.cols)) → number_in numbers r c ≡ None → value_at T r c ≡ W r c) where
+  module _ (T : Table) (f : Fits T) (leaf : (r c : ℕ) → r < length (visible_places (marks X.rows)) → c < length (visible_places (marks X.cols)) → number_in columns r c ≡ None → value_at T r c ≡ W r c) where
     abbrev AreEvaluated : List ℕ → Table → Type 0
     AreEvaluated R S = Fits S × Keeps T S × ((n : ℕ) (x : Node) → IsIn n R → slice_get nodes n ≡ Some x → value_at S x.row x.col ≡ W x.row x.col)
 
@@ -229,40 +230,40 @@ module _ (X : IdSheet) (w : IsWellFormed X) (nodes : List Node) (numbers : List 
     at_position S p q h k e = e ∙ (λ i. value_of X (record { row = rec_at X.rows (unwrap_or (place_of_index rows p h i) 0); col = rec_at X.cols (unwrap_or (place_of_index cols q k i) 0) }))
 
     module _ (n : ℕ) (x : Node) (e : slice_get nodes n ≡ Some x) (before : List ℕ) (S : Table) (r : AreEvaluated before S)
-        (behind : (d : ℕ) → IsIn d (mentions_in nodes numbers n) → IsIn d before ⊎ (White ≡ Ordered)) where
+        (behind : (d : ℕ) → IsIn d (mentions_in nodes columns n) → IsIn d before ⊎ (White ≡ Ordered)) where
       -- what its formula mentions is right
       mentioned_right : (at : ℕ × ℕ) → IsIn at (places_in rows cols x.formula) → IsRightAt X S at
-      mentioned_right at i = by_number (number_in numbers (visible_before rows at.0) (visible_before cols at.1)) refl
+      mentioned_right at i = by_number (number_in columns (visible_before rows at.0) (visible_before cols at.1)) refl
         where
           seen : AreSeen rows cols at
           seen = at_each (AreSeen rows cols) (places_in rows cols x.formula) at (places_seen rows cols x.formula) i
 
-          mentions : (m : ℕ) → number_in numbers (visible_before rows at.0) (visible_before cols at.1) ≡ Some m → IsIn m (mentions_in nodes numbers n)
+          mentions : (m : ℕ) → number_in columns (visible_before rows at.0) (visible_before cols at.1) ≡ Some m → IsIn m (mentions_in nodes columns n)
           mentions m h =
               subst (λ (ms : List ℕ). IsIn m ms)
-              (sym (ap (flat_map (in_area (number_in numbers))) (areas_found nodes n x e ∙ (g.node n x e).1.areas) ∙ areas_lead (number_in numbers) rows cols x.formula))
-              (filter_map_in (number_there (number_in numbers) rows cols) at m (places_in rows cols x.formula) h i)
+              (sym (ap (flat_map (in_area (number_in columns))) (areas_found nodes n x e ∙ (g.node n x e).1.areas) ∙ areas_lead (number_in columns) rows cols x.formula))
+              (filter_map_in (number_there (number_in columns) rows cols) at m (places_in rows cols x.formula) h i)
 
-          by_place : (m : ℕ) → number_in numbers (visible_before rows at.0) (visible_before cols at.1) ≡ Some m → (IsIn m before ⊎ (White ≡ Ordered)) → IsRightAt X S at
+          by_place : (m : ℕ) → number_in columns (visible_before rows at.0) (visible_before cols at.1) ≡ Some m → (IsIn m before ⊎ (White ≡ Ordered)) → IsRightAt X S at
           by_place m h (inr q) = absurd (let clash : White ≡ Ordered = q in cc)
           by_place m h (inl j) =
               let y = g.back (visible_before rows at.0) (visible_before cols at.1) m h in
               at_position S at.0 at.1 seen.0 seen.1
               ((λ k. value_at S (sym y.2 k) (sym y.3 k)) ∙ (r.2 m y.0 j y.1 ∙ (λ k. W (y.2 k) (y.3 k))))
 
-          by_number : (o : Option ℕ) → number_in numbers (visible_before rows at.0) (visible_before cols at.1) ≡ o → IsRightAt X S at
+          by_number : (o : Option ℕ) → number_in columns (visible_before rows at.0) (visible_before cols at.1) ≡ o → IsRightAt X S at
           by_number None h =
               let a = get_below (visible_places rows) (visible_before rows at.0) at.0 (place_of_index rows at.0 seen.0) in
               let b = get_below (visible_places cols) (visible_before cols at.1) at.1 (place_of_index cols at.1 seen.1) in
               at_position S at.0 at.1 seen.0 seen.1 (r.1 (visible_before rows at.0) (visible_before cols at.1) (leaf (visible_before rows at.0) (visible_before cols at.1) a b h))
           by_number (Some m) h = by_place m h (behind m (mentions m h))
 
-      next_right : is_circular X (id_of X nodes numbers g n) ≡ false → formula_value (look_environment (marks X.rows) (marks X.cols) S) x.formula ≡ W x.row x.col
+      next_right : is_circular X (id_of X nodes columns g n) ≡ false → formula_value (look_environment (marks X.rows) (marks X.cols) S) x.formula ≡ W x.row x.col
       next_right free =
-          node_value X S nodes numbers g n (number_of_node X w nodes numbers g n x e) free x e (for_each (IsRightAt X S) (places_in rows cols x.formula) mentioned_right)
+          node_value X S nodes columns g n (number_of_node X w nodes columns g n x e) free x e (for_each (IsRightAt X S) (places_in rows cols x.formula) mentioned_right)
           ∙ ap (value_of X) (id_shown n x e)
 
-      next_evaluated : is_circular X (id_of X nodes numbers g n) ≡ false → AreEvaluated (n ∷ before) (evaluated_node (marks X.rows) (marks X.cols) (Some x) S)
+      next_evaluated : is_circular X (id_of X nodes columns g n) ≡ false → AreEvaluated (n ∷ before) (evaluated_node (marks X.rows) (marks X.cols) (Some x) S)
       next_evaluated free = (
         put_fits n x e S r.0 (formula_value (look_environment (marks X.rows) (marks X.cols) S) x.formula) (next_right free),
         λ a b h. put_keeps n x e S r.0 (formula_value (look_environment (marks X.rows) (marks X.cols) S) x.formula) (next_right free) a b (r.1 a b h),
@@ -273,11 +274,11 @@ module _ (X : IdSheet) (w : IsWellFormed X) (nodes : List Node) (numbers : List 
           by_member m y h (inl p) = put_here n x e S r.0 (formula_value (look_environment (marks X.rows) (marks X.cols) S) x.formula) (next_right free) y (ap (slice_get nodes) p ∙ h)
           by_member m y h (inr i) = put_keeps n x e S r.0 (formula_value (look_environment (marks X.rows) (marks X.cols) S) x.formula) (next_right free) y.row y.col (r.2 m y i h)
 
-    evaluated_right : (R : List ℕ) → Orderly (mentions_in nodes numbers) (λ c. White) R → ((n : ℕ) → IsIn n R → n < length nodes) → AreEvaluated R (evaluated (marks X.rows) (marks X.cols) nodes (reverse R) T)
+    evaluated_right : (R : List ℕ) → Orderly (mentions_in nodes columns) (λ c. White) R → ((n : ℕ) → IsIn n R → n < length nodes) → AreEvaluated R (evaluated (marks X.rows) (marks X.cols) nodes (reverse R) T)
     evaluated_right [] h below = (f, λ r c e. e, λ n x i e. absurd i)
     evaluated_right (n ∷ before) h below =
         let x = get_there nodes n (below n (inl refl)) in
-        let free = ordered_free X w nodes numbers g (λ c. White) (λ m q. let clash : White ≡ Ordered = q in cc) (n ∷ before) h n (inl refl) (below n (inl refl)) in
+        let free = ordered_free X w nodes columns g (λ c. White) (λ m q. let clash : White ≡ Ordered = q in cc) (n ∷ before) h n (inl refl) (below n (inl refl)) in
         let now = next_evaluated n x.0 x.1 before (evaluated (marks X.rows) (marks X.cols) nodes (reverse before) T) (evaluated_right before h.1 (λ m i. below m (inr i))) h.0 free in
         subst (λ (S : Table). AreEvaluated (n ∷ before) S)
         (sym (ap (λ (xs : List ℕ). evaluated (marks X.rows) (marks X.cols) nodes xs T) (reverse-append (n ∷ []) before)
@@ -287,13 +288,13 @@ module _ (X : IdSheet) (w : IsWellFormed X) (nodes : List Node) (numbers : List 
 
   -- ---- all
   module _ (colours : List Colour) (order : List ℕ) (base T : Table) (len : length colours ≡ length nodes)
-      (found : IsFound (mentions_in nodes numbers) (λ c. White) (length nodes) (hue colours) (reverse order))
+      (found : IsFound (mentions_in nodes columns) (λ c. White) (length nodes) (hue colours) (reverse order))
       (constants : HasConstants (placed X) base)
       (values : T ≡ evaluated (marks X.rows) (marks X.cols) nodes order (circled nodes colours (length nodes) base)) where
     below : (n : ℕ) → IsIn n (reverse order) → n < length nodes
     below n i = let l = hue_within colours n (λ q. let clash : White ≡ Ordered = sym q ∙ (found.ordered n i).0 in cc) in let e = len in omega (arith, l, e)
 
-    first_leaf : (r c : ℕ) → r < length (visible_places (marks X.rows)) → c < length (visible_places (marks X.cols)) → number_in numbers r c ≡ None → value_at base r c ≡ W r c
+    first_leaf : (r c : ℕ) → r < length (visible_places (marks X.rows)) → c < length (visible_places (marks X.cols)) → number_in columns r c ≡ None → value_at base r c ≡ W r c
     first_leaf r c h k e = leaf_right X w base constants r c h k (g.none r c tt e)
 
     circles_done : AreCircled colours len found.circles (length nodes) base (circled nodes colours (length nodes) base)
@@ -306,7 +307,7 @@ module _ (X : IdSheet) (w : IsWellFormed X) (nodes : List Node) (numbers : List 
         (evaluated_right (circled nodes colours (length nodes) base) circles_done.0 (λ r c h k e. circles_done.1 r c (first_leaf r c h k e)) (reverse order) found.orderly below)
 
     right_at : (r c : ℕ) → r < length (visible_places (marks X.rows)) → c < length (visible_places (marks X.cols)) → value_at T r c ≡ W r c
-    right_at r c h k = by_number (number_in numbers r c) refl
+    right_at r c h k = by_number (number_in columns r c) refl
       where
         by_colour : (n : ℕ) (x : Node) → slice_get nodes n ≡ Some x → ((hue colours n ≡ Ordered) ⊎ (hue colours n ≡ Circular)) → value_at T x.row x.col ≡ W x.row x.col
         by_colour n x e (inr q) = all_done.1 x.row x.col (circles_done.2 n x (get_below nodes n x e) (ap is_circle q) e)
@@ -316,7 +317,7 @@ module _ (X : IdSheet) (w : IsWellFormed X) (nodes : List Node) (numbers : List 
             by_place (inl i) = all_done.2 n x i e
             by_place (inr p) = absurd (let clash : White ≡ Ordered = p in cc)
 
-        by_number : (o : Option ℕ) → number_in numbers r c ≡ o → value_at T r c ≡ W r c
+        by_number : (o : Option ℕ) → number_in columns r c ≡ o → value_at T r c ≡ W r c
         by_number None e = all_done.1 r c (circles_done.1 r c (first_leaf r c h k e))
         by_number (Some n) e =
             let x = g.back r c n e in

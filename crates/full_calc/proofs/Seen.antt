@@ -6,8 +6,7 @@ use Rattle.std.proofs.lemmas.Bool.Decides.{nat_tests}
 use Rattle.formula_tree.specs.Tree.{Tree, Trees, num, text, fault, cell, range, pre, bin, call, none, more}
 use Rattle.formula_tree.specs.Remap.{EachReference, EachReferences}
 use Rattle.sheet_value.specs.declared.value.Value.{Value}
-use Rattle.sheet_value.specs.Environment.{cell_value, range_shape, size_of_lines}
-use Rattle.funcs.specs.Areas.{range_values}
+use Rattle.sheet_value.specs.Environment.{cell_value, range_shape, range_values, size_of_lines}
 use Rattle.cell_eval.proofs.Alike.{SeesCell, SeesRange, formula-same}
 use Rattle.marked_lines.specs.Marks.{places_from}
 use Rattle.sheet_ops.specs.LineIds.{LineId, id_eq}
@@ -171,14 +170,14 @@ module _ (X : IdSheet) (v : CellId → Value) where
   abbrev values_at : List LineId → List LineId → List (List Value)
   values_at rows cols = map (λ a. map (λ b. v (cell_of a b)) cols) rows
 
-  rows_at : (rs cs : List ℕ) → map (λ r. map (λ c. v (cell_of (rec_at X.rows r) (rec_at X.cols c))) cs) rs ≡ values_at (map (rec_at X.rows) rs) (map (rec_at X.cols) cs)
-  rows_at [] cs = refl
-  rows_at (r ∷ rs) cs = λ i. sym (map_map (rec_at X.cols) (λ b. v (cell_of (rec_at X.rows r) b)) cs) i ∷ rows_at rs cs i
+  rows_in_column : (rs cs : List ℕ) → map (λ r. map (λ c. v (cell_of (rec_at X.rows r) (rec_at X.cols c))) cs) rs ≡ values_at (map (rec_at X.rows) rs) (map (rec_at X.cols) cs)
+  rows_in_column [] cs = refl
+  rows_in_column (r ∷ rs) cs = λ i. sym (map_map (rec_at X.cols) (λ b. v (cell_of (rec_at X.rows r) b)) cs) i ∷ rows_in_column rs cs i
 
   -- at a range
   range_seen : (r : IdRange) → range_values (environment X v) (locate_range X r) ≡ values_at (seen_between X.rows r.top r.bottom) (seen_between X.cols r.left r.right)
   range_seen r =
-      rows_at (places_between (marks X.rows) (slot_place X.rows r.top) (slot_place X.rows r.bottom)) (places_between (marks X.cols) (slot_place X.cols r.left) (slot_place X.cols r.right))
+      rows_in_column (places_between (marks X.rows) (slot_place X.rows r.top) (slot_place X.rows r.bottom)) (places_between (marks X.cols) (slot_place X.cols r.left) (slot_place X.cols r.right))
       ∙ (λ i. values_at (seen_records X.rows r.top r.bottom i) (seen_records X.cols r.left r.right i))
 
   abbrev has_some : {A : Type 0} → List A → Bool

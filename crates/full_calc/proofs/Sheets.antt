@@ -13,7 +13,7 @@ use Rattle.sheet_ops.specs.Identity.{IdCell, IdRange, IdContent, blank, number, 
 use Rattle.sheet_ops.proofs.Ids.{id_eq-same, id_eq-self, true_or_false}
 use Rattle.sheet_ops.proofs.References.{always}
 use Rattle.full_calc.specs.Precedents.{CellId, is_live, is_live_cell, live_cells, lines_between, seen_between, mentioned, mentioned_all}
-use Rattle.full_calc.specs.Depth.{circular_at, value_at}
+use Rattle.full_calc.specs.Depth.{circular_at, at_depth}
 use Rattle.full_calc.specs.Circular.{is_formula, is_formula_cell, formula_cells, content_precedents, precedents, is_circular_at, is_circular}
 use Rattle.full_calc.specs.Values.{content_value, formula_result, value_at_depth, value_of}
 use Rattle.full_calc.proofs.Seen.{cell_of, SameCell, SameRange, formula_result-same}
@@ -31,7 +31,7 @@ base_of X c = content_value (X.cells c.row c.col) (λ t. value.Empty)
 circular-is : (X : IdSheet) (n : ℕ) (c : CellId) → is_circular_at X n c ≡ circular_at (is_formula_cell X) (precedents X) n c
 circular-is X n c = refl
 
-value-is : (X : IdSheet) (n : ℕ) (c : CellId) → value_at_depth X n c ≡ value_at (is_circular X) (value.Err fault.Circ) (base_of X) (step_of X) n c
+value-is : (X : IdSheet) (n : ℕ) (c : CellId) → value_at_depth X n c ≡ at_depth (is_circular X) (value.Err fault.Circ) (base_of X) (step_of X) n c
 value-is X n c = refl
 
 -- ---- lists

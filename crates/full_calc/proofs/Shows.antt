@@ -13,7 +13,7 @@ use Rattle.sheet_value.specs.declared.value.Value.TheVariants as value
 use Rattle.sheet_value.specs.Tables.{Table, value_at}
 use Rattle.sheet_grid.specs.Cells.{visible_size}
 use Rattle.full_calc.specs.Values.{value_of, value_table}
-use Rattle.full_calc.specs.Shown.{place_seen, value_shown, IsShaped}
+use Rattle.full_calc.specs.Shown.{visible_position, value_shown, HasItsSize}
 use Rattle.full_calc.proofs.Tables.{same_table}
 
 -- ---- the lines that are live stand at the positions that are visible
@@ -71,7 +71,7 @@ module _ (X : IdSheet) where
   abbrev row_of : AxisLine → List Value
   row_of r = map (λ (c : AxisLine). value_of X (record { row = r.rec; col = c.rec })) (live_lines X.cols)
 
-  pub table_shaped : IsShaped (value_table X)
+  pub table_shaped : HasItsSize (value_table X)
   table_shaped = (
     length-map (live_lines X.rows) row_of,
     all_same (length (live_lines X.cols)) row_of (live_lines X.rows) (λ r. length-map (live_lines X.cols) (λ (c : AxisLine). value_of X (record { row = r.rec; col = c.rec }))),
@@ -106,11 +106,11 @@ module _ (X : IdSheet) where
       ∙ (at_map (λ (b : LineId). value_of X (record { row = slice_index_or (map (rec_at X.rows) (visible_places (marks X.rows))) r no_line.rec; col = b })) (map (rec_at X.cols) (visible_places (marks X.cols))) c value.Empty no_line.rec (let e = length-map (visible_places (marks X.cols)) (rec_at X.cols) in omega (arith, e, k))
       ∙ (λ i. value_of X (record { row = line X.rows r h i; col = line X.cols c k i }))))
     where
-      line : (axis : Axis) (v : ℕ) → v < length (visible_places (marks axis)) → slice_index_or (map (rec_at axis) (visible_places (marks axis))) v no_line.rec ≡ rec_at axis (place_seen (marks axis) v)
+      line : (axis : Axis) (v : ℕ) → v < length (visible_places (marks axis)) → slice_index_or (map (rec_at axis) (visible_places (marks axis))) v no_line.rec ≡ rec_at axis (visible_position (marks axis) v)
       line axis v l = at_map (rec_at axis) (visible_places (marks axis)) v no_line.rec 0 l ∙ ap (rec_at axis) (place_is (visible_places (marks axis)) v)
 
   -- a table that shows the values of the sheet is the sheet's table
-  pub shows_all : (T : Table) → IsShaped T → T.size ≡ visible_size (placed X) → ((r c : ℕ) → r < T.size.rows → c < T.size.cols → value_at T r c ≡ value_shown X r c) → T ≡ value_table X
+  pub shows_all : (T : Table) → HasItsSize T → T.size ≡ visible_size (placed X) → ((r c : ℕ) → r < T.size.rows → c < T.size.cols → value_at T r c ≡ value_shown X r c) → T ≡ value_table X
   shows_all T shape size h =
       same_table T (value_table X) shape table_shaped (size ∙ sym table_size) (λ r c l m. h r c l m ∙ sym (table_value r c (row_below l) (col_below m)))
     where

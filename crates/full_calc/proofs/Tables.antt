@@ -8,7 +8,7 @@ use Rattle.sheet_value.specs.declared.value.Value.{Value}
 use Rattle.sheet_value.specs.declared.value.Value.TheVariants as value
 use Rattle.sheet_value.specs.Tables.{Table, empty_table, value_at, with_value}
 use Rattle.cell_walk.proofs.Turns.{same_or_not}
-use Rattle.full_calc.specs.Shown.{IsShaped}
+use Rattle.full_calc.specs.Shown.{HasItsSize}
 
 -- ---- rows of one length
 abbrev HasLength : ℕ → List Value → Type 0
@@ -33,7 +33,7 @@ length-same zero x = refl
 length-same (suc m) x = ap suc (length-same m x)
 
 -- ---- an empty table
-pub shaped_empty : (s : Size) → IsShaped (empty_table s)
+pub shaped_empty : (s : Size) → HasItsSize (empty_table s)
 shaped_empty s = (length-same s.rows (replicate s.cols value.Empty), same_all s.cols s.rows (replicate s.cols value.Empty) (length-same s.cols value.Empty))
 
 nothing_in : (n c : ℕ) → slice_index_or (replicate n value.Empty) c value.Empty ≡ value.Empty
@@ -50,7 +50,7 @@ pub empty_value : (s : Size) (r c : ℕ) → value_at (empty_table s) r c ≡ va
 empty_value s r c = row_of_nothing s.rows s.cols r c
 
 -- ---- one value put in
-module _ (T : Table) (row col : ℕ) (v : Value) (shape : IsShaped T) (h : row < T.size.rows) (k : col < T.size.cols) where
+module _ (T : Table) (row col : ℕ) (v : Value) (shape : HasItsSize T) (h : row < T.size.rows) (k : col < T.size.cols) where
   abbrev after : List Value
   after = slice_set (slice_index_or T.rows row []) col v
 
@@ -60,7 +60,7 @@ module _ (T : Table) (row col : ℕ) (v : Value) (shape : IsShaped T) (h : row <
   col_there : col < length (slice_index_or T.rows row [])
   col_there = let e = at_all T.size.cols T.rows row shape.1 row_there in omega (arith, e, k)
 
-  pub shaped_put : IsShaped (with_value T row col v)
+  pub shaped_put : HasItsSize (with_value T row col v)
   shaped_put = (
     length-set T.rows row after ∙ shape.0,
     set_all T.size.cols T.rows row after shape.1 (length-set (slice_index_or T.rows row []) col v ∙ at_all T.size.cols T.rows row shape.1 row_there),
@@ -101,7 +101,7 @@ module _ (T : Table) (row col : ℕ) (v : Value) (shape : IsShaped T) (h : row <
       by_place (inr n) = value_other r c n ∙ q
 
 -- ---- tables that show the same
-pub same_table : (T S : Table) → IsShaped T → IsShaped S → T.size ≡ S.size → ((r c : ℕ) → r < T.size.rows → c < T.size.cols → value_at T r c ≡ value_at S r c) → T ≡ S
+pub same_table : (T S : Table) → HasItsSize T → HasItsSize S → T.size ≡ S.size → ((r c : ℕ) → r < T.size.rows → c < T.size.cols → value_at T r c ≡ value_at S r c) → T ≡ S
 same_table T S t s size h = λ i. record { size = size i; rows = rows i }
   where
     rows_size : T.size.rows ≡ S.size.rows

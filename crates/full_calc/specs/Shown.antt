@@ -10,16 +10,16 @@ use Rattle.full_calc.specs.Precedents.{CellId}
 use Rattle.full_calc.specs.Values.{value_of}
 
 -- the position of a visible line
-abbrev pub place_seen : List Bool → ℕ → ℕ
-place_seen marks visible = unwrap_or (slice_get (visible_places marks) visible) 0
+abbrev pub visible_position : List Bool → ℕ → ℕ
+visible_position marks visible = unwrap_or (slice_get (visible_places marks) visible) 0
 
 -- the cell that is shown at visible indexes, and its value
 abbrev pub cell_shown : IdSheet → ℕ → ℕ → CellId
-cell_shown X row col = record { row = rec_at X.rows (place_seen (marks X.rows) row); col = rec_at X.cols (place_seen (marks X.cols) col) }
+cell_shown X row col = record { row = rec_at X.rows (visible_position (marks X.rows) row); col = rec_at X.cols (visible_position (marks X.cols) col) }
 
 abbrev pub value_shown : IdSheet → ℕ → ℕ → Value
 value_shown X row col = value_of X (cell_shown X row col)
 
 -- a table has as many rows and columns as its size says
-abbrev pub IsShaped : Table → Type 0
-IsShaped T = (length T.rows ≡ T.size.rows) × AllByRecursion (λ row. length row ≡ T.size.cols) T.rows
+abbrev pub HasItsSize : Table → Type 0
+HasItsSize T = (length T.rows ≡ T.size.rows) × AllByRecursion (λ row. length row ≡ T.size.cols) T.rows

@@ -4,7 +4,7 @@ ghost use Rattle.sheet_value.specs.Tables.{value_at, with_value};
 ghost use Rattle.sheet_grid.specs.Values.{placed_in};
 ghost use Rattle.sheet_grid.specs.Cells.{visible_size};
 ghost use Rattle.sheet_graph.specs.Graphs.{content_seen, HoldsFilled};
-ghost use Rattle.full_calc.specs.Shown.{IsShaped};
+ghost use Rattle.full_calc.specs.Shown.{HasItsSize};
 ghost use Rattle.full_calc.specs.Evaluated.{constant_of};
 ghost use Rattle.full_calc.specs.Computed.{HasConstants};
 
@@ -39,12 +39,12 @@ fn put_constant(grid: &mut Grid, sheet: &Sheet, row: u32, col: u32) -> Result<()
 /// Puts the constants of a row into their places, where nothing is yet.
 fn put_row(grid: &mut Grid, sheet: &Sheet, row: u32, cols: &[u32]) -> Result<(), Memory>
     requires size { grid.old.size ≡ visible_size (placed_in sheet.now) }
-    requires shape { IsShaped grid.old }
+    requires shape { HasItsSize grid.old }
     requires row { row < grid.old.size.rows }
     requires filled { HoldsFilled (placed_in sheet.now) row (visible_size (placed_in sheet.now)).cols cols.now }
     requires empty { (c : ℕ) → value_at grid.old row c ≡ value.Empty }
     ensures size { OnOk result (grid.new.size ≡ grid.old.size) }
-    ensures shape { OnOk result (IsShaped grid.new) }
+    ensures shape { OnOk result (HasItsSize grid.new) }
     ensures here { OnOk result ((c : ℕ) → value_at grid.new row c ≡ constant_of (content_seen (placed_in sheet.now) row c)) }
     ensures others { OnOk result ((r c : ℕ) → r ≢ row → value_at grid.new r c ≡ value_at grid.old r c) }
 {
@@ -54,7 +54,8 @@ fn put_row(grid: &mut Grid, sheet: &Sheet, row: u32, cols: &[u32]) -> Result<(),
     Ok(())
 }
 
-/// The values of the constants of a sheet, by visible indexes. It takes time with the filled cells.
+/// The values of the constants of a sheet, by visible indexes. It takes time with the lines, and with
+/// each column down to its last constant.
 pub(crate) fn constants(alloc: Global, sheet: &Sheet) -> Result<Grid, Memory>
     ensures { IfOk result (λ g. HasConstants (placed_in sheet.now) g) }
 {

@@ -1,11 +1,11 @@
-ghost use Rattle.std.specs.Prelude.{◌≡◌, ◌-◌, ◌+◌, unwrap_or, Some};
+ghost use Rattle.std.specs.Prelude.{◌≡◌, unwrap_or, Some};
 ghost use Rattle.std.specs.Option.{option_copied};
 ghost use Rattle.sheet_value.specs.declared.value.Value.TheVariants as value;
 ghost use Rattle.sheet_value.specs.Environment.{seen_value};
 ghost use Rattle.full_calc.specs.Looks.{look_environment};
 
 use crate::lines::SheetLines;
-use sheet_value::{Grid, Look, Seen, Value};
+use sheet_value::{Grid, Look, Seen, Value, Window};
 use ss_base::{Size, Span, Spot};
 
 /// The lines of a sheet, and values by visible indexes. What is hidden isn't seen.
@@ -28,23 +28,14 @@ impl Look for SheetLook<'_> {
         seen(self.grid.at(row, col))
     }
 
-    fn shape(&self, span: &Span) -> Option<Size> {
+    fn range(&self, span: &Span) -> Option<Window<'_>> {
         let (top, bottom) = self.lines.rows.span(span.top, span.bottom)?;
         let (left, right) = self.lines.cols.span(span.left, span.right)?;
-        Some(Size {
+        let size = Size {
             rows: (bottom + 1).saturating_sub(top),
             cols: (right + 1).saturating_sub(left),
-        })
-    }
-
-    fn part(&self, span: &Span, row: u32, col: u32) -> Seen<'_> {
-        let Some((top, _)) = self.lines.rows.span(span.top, span.bottom) else {
-            return Seen::Lost;
         };
-        let Some((left, _)) = self.lines.cols.span(span.left, span.right) else {
-            return Seen::Lost;
-        };
-        seen(self.grid.at(top + row, left + col))
+        Some(Window::new(self.grid, top, left, size))
     }
 }
 

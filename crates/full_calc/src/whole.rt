@@ -34,8 +34,8 @@ fn computed<G: Ledger>(alloc: Global, sheet: &Sheet, steps: &mut Steps<G>) -> Re
 }
 
 /// The values of a sheet by visible indexes: at each index that of the cell shown there, evaluated in
-/// full. It takes time with the filled cells, the lines, and what the formulas mention, and memory
-/// with the filled cells and the references in formulas.
+/// full. It takes time with the lines, with each visible column down to its last filled cell, and with
+/// what the formulas mention, and memory with those columns and the references in formulas.
 pub fn values<G: Ledger>(alloc: Global, sheet: &Sheet, steps: &mut Steps<G>) -> Result<Grid, Memory>
     ensures values { IfOk result (λ g. (X : IdSheet) → IsWellFormed X → placed X ≡ placed_in sheet.now → g ≡ value_table X) }
     // No formula is evaluated twice, and none that is circular.

@@ -8,9 +8,13 @@ use Rattle.std.proofs.lemmas.List.Elements.{filter_map-append}
 use Rattle.std.proofs.lemmas.Option.{slice_get_within, get_or_from_slice_get}
 use Rattle.ss_base.specs.declared.types.CalcErr.{CalcErr}
 use Rattle.sheet_value.specs.declared.value.Value.{Value}
+use Rattle.sheet_value.specs.declared.value.Value.TheVariants as value
 use Rattle.sheet_value.specs.Environment.{Environment}
 use Rattle.funcs.specs.declared.arg.Arg.{Arg}
 use Rattle.funcs.specs.declared.arg.Arg.TheVariants as arg
+use Rattle.funcs.specs.declared.value_ref.ValueRef.{ValueRef}
+use Rattle.funcs.specs.declared.value_ref.ValueRef.TheVariants as lent
+use Rattle.funcs.specs.Refs.{owned}
 use Rattle.funcs.specs.Steps.{and_then, all_of}
 use Rattle.funcs.specs.Areas.{Item, sheet, area, items, sheet_items, items_of, items_of_all, item_number, item_numbers, sheet_number, sheet_numbers}
 use Rattle.funcs.specs.Tallies.{TallyOf, with_numbers}
@@ -58,6 +62,12 @@ module _ (t : TallyOf) (vs : List Value) (i : ℕ) (v : Value) (this : slice_get
 
   pub value-err : (d : CalcErr) → Err d ≡ with_numbers t (sheet_numbers (v ∷ [])) → with_numbers t (sheet_numbers (drop i vs)) ≡ Err d
   value-err d e = ap (λ (ws : List Value). with_numbers t (sheet_numbers ws)) rest ∙ parts-err sheet_number t d (v ∷ []) (drop (i + 1) vs) e
+
+pub no_fault : (v : ValueRef) → ((e : CalcErr) → v ≡ lent.Err e → ⊥) → (e : CalcErr) → owned v ≡ value.Err e → ⊥
+no_fault lent.Empty h e is = absurd (cc)
+no_fault (lent.Num n) h e is = absurd (cc)
+no_fault (lent.Text t) h e is = absurd (cc)
+no_fault (lent.Err d) h e is = h d refl
 
 -- ---- the items of some arguments, one argument after another
 module _ (E : Environment) (t : TallyOf) (args : List Arg) (i : ℕ) (a : Arg) (inside : i < length args) (this : a ≡ get_or args i a) where

@@ -1,5 +1,6 @@
 pub mod Alike
 mod Counting
+mod Filled
 mod Floors
 mod Found
 mod Joined

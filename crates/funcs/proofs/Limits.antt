@@ -10,15 +10,15 @@ use Rattle.ss_base.specs.declared.types.CalcErr.TheVariants as fault
 use Rattle.sheet_value.specs.declared.value.Value.{Value}
 use Rattle.sheet_value.specs.declared.value.Value.TheVariants as value
 use Rattle.sheet_value.specs.Values.{IsWithinLimit, text_value}
-use Rattle.sheet_value.specs.Environment.{Environment, HasShortTexts, cell_value, range_shape}
+use Rattle.sheet_value.specs.Environment.{Environment, HasShortTexts, cell_value, range_shape, range_values}
 use Rattle.funcs.specs.declared.arg.Arg.{Arg}
 use Rattle.funcs.specs.declared.arg.Arg.TheVariants as arg
 use Rattle.funcs.specs.Steps.{and_then, all_of, answer}
 use Rattle.formula_tree.specs.declared.functions.Fun.{Fun}
 use Rattle.formula_tree.specs.declared.functions.Fun.TheVariants as fun
 use Rattle.funcs.specs.Numbers.{number_value, is_in_range, is_zero, place, total, byte_count, count_value, truth, floor_div}
-use Rattle.funcs.specs.Args.{none, one, two, one_or_more, two_or_three, two_or_more, three, four, value_of, number, number_or_one, text, criterion, AreWithinLimit}
-use Rattle.funcs.specs.Areas.{area, items, item_at, same_shape, range_values, sheet_numbers}
+use Rattle.funcs.specs.Args.{none, one, two, one_or_more, two_or_three, two_or_more, three, four, value_of_argument, number, number_or_one, text, criterion, AreWithinLimit}
+use Rattle.funcs.specs.Areas.{area, items, item_at, same_shape, sheet_numbers}
 use Rattle.funcs.specs.Scalars.{value_or_zero, dividend_and_divisor, if_of, iferror_of, test_of, is_error, is_na, is_blank, is_number, is_text, choose_of}
 use Rattle.funcs.specs.Lists.{numbers_given}
 use Rattle.funcs.specs.Calls.{call_of}
@@ -84,7 +84,7 @@ module _ (E : Environment) (short : HasShortTexts E) where
       by_place None = tt
       by_place (Some at) = short at.0 at.1
 
-  first-within : (a : Arg) (args : List Arg) → AreWithinLimit (a ∷ args) → IsWithinLimit (value_of E a)
+  first-within : (a : Arg) (args : List Arg) → AreWithinLimit (a ∷ args) → IsWithinLimit (value_of_argument E a)
   first-within (arg.One v) args h = h.0
   first-within (arg.At s) args h = cell-within s
   first-within (arg.Over s) args h = tt
@@ -94,27 +94,27 @@ module _ (E : Environment) (short : HasShortTexts E) where
   rest-within (arg.At s) args h = h
   rest-within (arg.Over s) args h = h
 
-  if_values : (args : List Arg) (p : Arg × Arg × Option Arg) → two_or_three args ≡ Ok p → AreWithinLimit args → IsWithinLimit (value_of E p.1) × IsWithinLimit (value_or_zero E p.2)
+  if_values : (args : List Arg) (p : Arg × Arg × Option Arg) → two_or_three args ≡ Ok p → AreWithinLimit args → IsWithinLimit (value_of_argument E p.1) × IsWithinLimit (value_or_zero E p.2)
   if_values [] p e h = absurd (cc)
   if_values (x ∷ []) p e h = absurd (cc)
   if_values (x ∷ y ∷ []) p e h =
       let is : (x, y, None) ≡ p = cc in
-      subst (λ (q : Arg × Arg × Option Arg). IsWithinLimit (value_of E q.1) × IsWithinLimit (value_or_zero E q.2)) is (first-within y [] (rest-within x (y ∷ []) h), tt)
+      subst (λ (q : Arg × Arg × Option Arg). IsWithinLimit (value_of_argument E q.1) × IsWithinLimit (value_or_zero E q.2)) is (first-within y [] (rest-within x (y ∷ []) h), tt)
   if_values (x ∷ y ∷ z ∷ []) p e h =
       let is : (x, y, Some z) ≡ p = cc in
       let rest = rest-within x (y ∷ z ∷ []) h in
-      subst (λ (q : Arg × Arg × Option Arg). IsWithinLimit (value_of E q.1) × IsWithinLimit (value_or_zero E q.2)) is (first-within y (z ∷ []) rest, first-within z [] (rest-within y (z ∷ []) rest))
+      subst (λ (q : Arg × Arg × Option Arg). IsWithinLimit (value_of_argument E q.1) × IsWithinLimit (value_or_zero E q.2)) is (first-within y (z ∷ []) rest, first-within z [] (rest-within y (z ∷ []) rest))
   if_values (x ∷ y ∷ z ∷ w ∷ args) p e h = absurd (cc)
 
   pub if-within : (args : List Arg) → AreWithinLimit args → IsWithinLimit (answer (if_of E args))
   if-within args h = steps (two_or_three args) _ (λ p e. steps (number E p.0) _ (λ n _. by_test (is_zero n) p (if_values args p e h)))
     where
-      by_test : (b : Bool) (p : Arg × Arg × Option Arg) → IsWithinLimit (value_of E p.1) × IsWithinLimit (value_or_zero E p.2) → IsWithinLimit (cond b (value_or_zero E p.2) (value_of E p.1))
+      by_test : (b : Bool) (p : Arg × Arg × Option Arg) → IsWithinLimit (value_of_argument E p.1) × IsWithinLimit (value_or_zero E p.2) → IsWithinLimit (cond b (value_or_zero E p.2) (value_of_argument E p.1))
       by_test true p h = h.1
       by_test false p h = h.0
 
   -- one of some arguments
-  member-within : (args : List Arg) (k : ℕ) → AreWithinLimit args → IsWithinLimit (answer (and_then (ok_or (slice_get args k) fault.BadKind) (λ a. Ok (value_of E a))))
+  member-within : (args : List Arg) (k : ℕ) → AreWithinLimit args → IsWithinLimit (answer (and_then (ok_or (slice_get args k) fault.BadKind) (λ a. Ok (value_of_argument E a))))
   member-within [] k h = tt
   member-within (a ∷ args) zero h = first-within a args h
   member-within (a ∷ args) (suc k) h = member-within args k (rest-within a args h)
@@ -189,15 +189,15 @@ module _ (E : Environment) (short : HasShortTexts E) where
   iferror-within : (args : List Arg) → AreWithinLimit args → IsWithinLimit (answer (iferror_of E args))
   iferror-within [] h = tt
   iferror-within (x ∷ []) h = tt
-  iferror-within (x ∷ y ∷ []) h = by_test (is_error (value_of E x)) (first-within x (y ∷ []) h) (first-within y [] (rest-within x (y ∷ []) h))
+  iferror-within (x ∷ y ∷ []) h = by_test (is_error (value_of_argument E x)) (first-within x (y ∷ []) h) (first-within y [] (rest-within x (y ∷ []) h))
     where
-      by_test : (b : Bool) → IsWithinLimit (value_of E x) → IsWithinLimit (value_of E y) → IsWithinLimit (cond b (value_of E y) (value_of E x))
+      by_test : (b : Bool) → IsWithinLimit (value_of_argument E x) → IsWithinLimit (value_of_argument E y) → IsWithinLimit (cond b (value_of_argument E y) (value_of_argument E x))
       by_test true p q = q
       by_test false p q = p
   iferror-within (x ∷ y ∷ z ∷ args) h = tt
 
   test-within : (test : Value → Bool) (args : List Arg) → IsWithinLimit (answer (test_of test E args))
-  test-within test args = steps (one args) _ (λ a _. truth-within (test (value_of E a)))
+  test-within test args = steps (one args) _ (λ a _. truth-within (test (value_of_argument E a)))
 
   -- a function of some numbers
   given-within : (args : List Arg) (f : List ℤ → Result Value CalcErr) → ((ns : List ℤ) → IsWithinLimit (answer (f ns))) → IsWithinLimit (answer (and_then (numbers_given E args) f))

@@ -1,18 +1,19 @@
 -- Cells and ranges as lists of items.
-use Rattle.std.proofs.Common.{◌≡◌, ℕ, zero, suc, ◌+◌, ◌*◌, ◌/◌, ◌%◌, ◌^◌, ◌<◌, ◌≤◌, List, [], ◌∷◌, ◌++◌, length, map, Ok, Err, refl, sym, ap, ◌∙◌, subst, arith, length-append}
-use Rattle.std.specs.Prelude.{slice_get, ok_or, Option, Some, None}
+use Rattle.std.proofs.Common.{◌≡◌, ℕ, zero, suc, ◌+◌, ◌*◌, ◌/◌, ◌%◌, ◌^◌, ◌<◌, ◌≤◌, List, [], ◌∷◌, ◌++◌, length, Ok, Err, refl, sym, ap, ◌∙◌, subst, arith, length-append}
+use Rattle.std.specs.Prelude.{slice_get, slice_index_or, ok_or, Option, Some, None}
 use Rattle.std.specs.Option.{option_and_then}
-use Rattle.std.proofs.lemmas.Option.{slice_get_past}
+use Rattle.std.specs.List.{AllByRecursion}
+use Rattle.std.proofs.lemmas.Option.{slice_get_past, slice_get-get_or}
 use Rattle.std.proofs.Math.Nat.{suc-mul, mul-le-mul, div-lt_iff_lt-mul, div-le_self}
 use Rattle.std.proofs.lemmas.Nat.{div-add-mod'}
 use Rattle.ss_base.specs.declared.types.Size.{Size}
 use Rattle.ss_base.specs.declared.types.CalcErr.TheVariants as fault
 use Rattle.sheet_value.specs.declared.value.Value.{Value}
-use Rattle.sheet_value.specs.Environment.{Environment, size_of_lines}
+use Rattle.sheet_value.specs.declared.value.Value.TheVariants as value
+use Rattle.sheet_value.specs.Tables.{column_of, filled_up}
 use Rattle.funcs.specs.declared.area.Place.{Place}
 use Rattle.funcs.specs.declared.area.Place.TheVariants as place
-use Rattle.funcs.specs.Areas.{items, width, item_at, range_values}
-use Rattle.funcs.specs.Refs.{owned}
+use Rattle.funcs.specs.Areas.{items, width, item_at}
 use Rattle.funcs.specs.Places.{values_of, HasShape}
 
 -- ---- a list in front of another
@@ -26,119 +27,117 @@ slice_get-back [] ys i = ap (λ (k : ℕ). slice_get ys k) (let z : 0 + i ≡ i 
 slice_get-back (x ∷ xs) ys i = ap (λ (k : ℕ). slice_get (x ∷ (xs ++ ys)) k) (let z : length (x ∷ xs) + i ≡ suc (length xs + i) = omega arith in z) ∙ slice_get-back xs ys i
 
 -- ---- rows of one width
-module _ (f : ℕ → ℕ → Value) (cols : List ℕ) where
-  row : ℕ → List Value
-  row r = map (λ c. f r c) cols
+abbrev AreWide : ℕ → List (List Value) → Type 0
+AreWide n rows = AllByRecursion (λ row. length row ≡ n) rows
 
-  length-row : (r : ℕ) → length (row r) ≡ length cols
-  unfolding row
-  length-row r = along cols
-    where
-      along : (cs : List ℕ) → length (map (λ c. f r c) cs) ≡ length cs
-      along [] = refl
-      along (c ∷ cs) = ap suc (along cs)
+length-items : (n : ℕ) (rows : List (List Value)) → AreWide n rows → length (items rows) ≡ length rows * n
+length-items n [] h = let z : 0 ≡ 0 * n = omega arith in z
+length-items n (r ∷ rows) h =
+    length-append r (items rows)
+    ∙ ((λ i. h.0 i + length-items n rows h.1 i)
+    ∙ (let e : suc (length rows) * n ≡ length rows * n + n = suc-mul (length rows) n in omega arith))
 
-  length-rows : (rows : List ℕ) → length (map (λ r. map (λ c. f r c) cols) rows) ≡ length rows
-  length-rows [] = refl
-  length-rows (r ∷ rows) = ap suc (length-rows rows)
+item : (n : ℕ) (rows : List (List Value)) → AreWide n rows → (i j : ℕ) → j < n → slice_get (items rows) (i * n + j) ≡ option_and_then (λ (r : List Value). slice_get r j) (slice_get rows i)
+item n [] h i j k = refl
+item n (r ∷ rows) h zero j k =
+    ap (λ (m : ℕ). slice_get (items (r ∷ rows)) m) (let z : 0 * n + j ≡ j = omega arith in z)
+    ∙ slice_get-front r (items rows) j (let l = h.0 in omega (arith, l, k))
+item n (r ∷ rows) h (suc i) j k =
+    ap (λ (m : ℕ). slice_get (items (r ∷ rows)) m)
+    (let l = h.0 in let e : suc i * n ≡ i * n + n = suc-mul i n in let z : suc i * n + j ≡ length r + (i * n + j) = omega (arith, l, e) in z)
+    ∙ (slice_get-back r (items rows) (i * n + j)
+    ∙ item n rows h.1 i j k)
 
-  length-items : (rows : List ℕ) → length (items (map (λ r. map (λ c. f r c) cols) rows)) ≡ length rows * length cols
-  unfolding row
-  length-items [] = let z : 0 ≡ 0 * length cols = omega arith in z
-  length-items (r ∷ rows) =
-      length-append (map (λ c. f r c) cols) (items (map (λ s. map (λ c. f s c) cols) rows))
-      ∙ ((λ i. length-row r i + length-items rows i)
-      ∙ (let e : suc (length rows) * length cols ≡ length rows * length cols + length cols = suc-mul (length rows) (length cols) in omega arith))
+-- each row ends with its last column
+row_end : (n : ℕ) (rows : List (List Value)) → AreWide n rows → (i j : ℕ) → n ≤ j → option_and_then (λ (r : List Value). slice_get r j) (slice_get rows i) ≡ None
+row_end n [] h i j k = refl
+row_end n (r ∷ rows) h zero j k = slice_get_past r j (let l = h.0 in omega (arith, l, k))
+row_end n (r ∷ rows) h (suc i) j k = row_end n rows h.1 i j k
 
-  item : (rows : List ℕ) (i j : ℕ) → j < length cols →
-      slice_get (items (map (λ r. map (λ c. f r c) cols) rows)) (i * length cols + j) ≡ option_and_then (λ (vs : List Value). slice_get vs j) (slice_get (map (λ r. map (λ c. f r c) cols) rows) i)
-  unfolding row
-  item [] i j h = refl
-  item (r ∷ rows) zero j h =
-      ap (λ (k : ℕ). slice_get (items (map (λ s. map (λ c. f s c) cols) (r ∷ rows))) k) (let z : 0 * length cols + j ≡ j = omega arith in z)
-      ∙ slice_get-front (map (λ c. f r c) cols) (items (map (λ s. map (λ c. f s c) cols) rows)) j (let l = length-row r in omega (arith, l))
-  item (r ∷ rows) (suc i) j h =
-      ap (λ (k : ℕ). slice_get (items (map (λ s. map (λ c. f s c) cols) (r ∷ rows))) k)
-      (let l = length-row r in let e : suc i * length cols ≡ i * length cols + length cols = suc-mul i (length cols) in
-      let z : suc i * length cols + j ≡ length (map (λ c. f r c) cols) + (i * length cols + j) = omega (arith, l, e) in z)
-      ∙ (slice_get-back (map (λ c. f r c) cols) (items (map (λ s. map (λ c. f s c) cols) rows)) (i * length cols + j)
-      ∙ item rows i j h)
+-- an item inside
+within : (n : ℕ) (rows : List (List Value)) → AreWide n rows → (i j : ℕ) → i < length rows → j < n → item_at rows i j ≡ Ok (slice_index_or (slice_index_or rows i []) j value.Empty)
+within n [] h i j k l = absurd (omega arith)
+within n (r ∷ rows) h zero j k l = ap (λ (o : Option Value). ok_or o fault.Lost) (slice_get-get_or r j value.Empty (let e = h.0 in omega (arith, e, l)))
+within n (r ∷ rows) h (suc i) j k l = within n rows h.1 i j (omega arith) l
+
+first_width : (n : ℕ) (rows : List (List Value)) → AreWide n rows → 0 < length rows → width rows ≡ n
+first_width n [] h k = absurd (omega arith)
+first_width n (r ∷ rows) h k = h.0
+
+-- the items of a single column
+alone : (rows : List (List Value)) → AreWide 1 rows → items rows ≡ column_of rows 0
+alone [] h = refl
+alone (r ∷ rows) h = by_row r h.0 (alone rows h.1)
+  where
+    by_row : (vs : List Value) → length vs ≡ 1 → items rows ≡ column_of rows 0 → vs ++ items rows ≡ slice_index_or vs 0 value.Empty ∷ column_of rows 0
+    by_row [] e rest = absurd (omega (arith, e))
+    by_row (v ∷ []) e rest = ap (λ (ws : List Value). v ∷ ws) rest
+    by_row (v ∷ w ∷ vs) e rest = absurd (omega (arith, e))
 
 -- ---- the shape of a cell or a range
-shaped : (rows cols : List ℕ) (shape : Size) → size_of_lines rows cols ≡ Some shape → (shape.rows ≡ length rows) × (shape.cols ≡ length cols) × (0 < length rows) × (0 < length cols)
-shaped [] cols shape e = absurd (cc)
-shaped (r ∷ rows) [] shape e = absurd (cc)
-shaped (r ∷ rows) (c ∷ cols) shape e = (let z : shape.rows ≡ length (r ∷ rows) = ap (λ (s : Size). s.rows) (sym same) in z, ap (λ (s : Size). s.cols) (sym same), omega arith, omega arith)
-  where
-    same : record { rows = length (r ∷ rows); cols = length (c ∷ cols) } ≡ shape
-    same = cc
-
 pub record IsShape (vs : List (List Value)) (shape : Size) : Type 0 where
   pub rows : length vs ≡ shape.rows
   pub cols : width vs ≡ shape.cols
   pub some_cols : 0 < shape.cols
-  pub count : length (items vs) ≡ shape.rows * shape.cols
-  pub item : (i j : ℕ) → j < shape.cols → slice_get (items vs) (i * shape.cols + j) ≡ option_and_then (λ (r : List Value). slice_get r j) (slice_get vs i)
-  pub past : (i j : ℕ) → shape.cols ≤ j → option_and_then (λ (r : List Value). slice_get r j) (slice_get vs i) ≡ None
+  pub few_rows : shape.rows ≤ 16000
+  pub few_cols : shape.cols ≤ 16000
+  pub widths : AreWide shape.cols vs
 
--- a single cell
-alone : (v : Value) → IsShape ((v ∷ []) ∷ []) (record { rows = 1; cols = 1 })
-alone v = record { rows = refl; cols = refl; some_cols = omega arith; count = refl; item = item; past = past }
-  where
-    item : (i j : ℕ) → j < 1 → slice_get (v ∷ []) (i * 1 + j) ≡ option_and_then (λ (r : List Value). slice_get r j) (slice_get ((v ∷ []) ∷ []) i)
-    item zero zero h = refl
-    item zero (suc j) h = absurd (omega arith)
-    item (suc i) j h = slice_get_past (v ∷ []) (suc i * 1 + j) (let z : 1 ≤ suc i * 1 + j = omega arith in z)
+one_value : (vs : List Value) → length vs ≤ 1 → length (filled_up vs 1) ≡ 1
+one_value [] h = refl
+one_value (v ∷ []) h = refl
+one_value (v ∷ w ∷ vs) h = absurd (omega (arith, h))
 
-    past : (i j : ℕ) → 1 ≤ j → option_and_then (λ (r : List Value). slice_get r j) (slice_get ((v ∷ []) ∷ []) i) ≡ None
-    past zero zero h = absurd (omega arith)
-    past zero (suc j) h = refl
-    past (suc i) j h = refl
+pub is_shape : (at : Place) (shape : Size) → HasShape at shape → IsShape (values_of at) shape
+is_shape (place.Cell vs) shape h =
+    subst (λ (s : Size). IsShape (filled_up vs.now 1 ∷ []) s) (sym h.1)
+    (record { rows = refl; cols = one_value vs.now h.0; some_cols = omega arith; few_rows = omega arith; few_cols = omega arith; widths = (one_value vs.now h.0, tt) })
+is_shape (place.Range w) shape h =
+    subst (λ (s : Size). IsShape w.rows s) h.1
+    (record {
+      rows = h.0.height;
+      cols = first_width w.size.cols w.rows h.0.widths (let l = h.0.height in let k = h.0.some_rows in omega (arith, l, k));
+      some_cols = h.0.some_cols;
+      few_rows = h.0.few_rows;
+      few_cols = h.0.few_cols;
+      widths = h.0.widths;
+    })
 
--- each row ends with its last column
-row_end : (f : ℕ → ℕ → Value) (cols rows : List ℕ) (i j : ℕ) → length cols ≤ j → option_and_then (λ (r : List Value). slice_get r j) (slice_get (map (λ r. map (λ c. f r c) cols) rows) i) ≡ None
-row_end f cols [] i j h = refl
-row_end f cols (r ∷ rows) zero j h = slice_get_past (map (λ c. f r c) cols) j (let l = along cols in omega (arith, l))
-  where
-    along : (cs : List ℕ) → length (map (λ c. f r c) cs) ≡ length cs
-    along [] = refl
-    along (c ∷ cs) = ap suc (along cs)
-row_end f cols (r ∷ rows) (suc i) j h = row_end f cols rows i j h
-
-first_width : (f : ℕ → ℕ → Value) (cols rows : List ℕ) → 0 < length rows → width (map (λ r. map (λ c. f r c) cols) rows) ≡ length cols
-first_width f cols [] h = absurd (omega arith)
-first_width f cols (r ∷ rows) h = along cols
-  where
-    along : (cs : List ℕ) → length (map (λ c. f r c) cs) ≡ length cs
-    along [] = refl
-    along (c ∷ cs) = ap suc (along cs)
-
-pub is_shape : (E : Environment) (at : Place) (shape : Size) → HasShape E at shape → IsShape (values_of E at) shape
-is_shape E (place.Cell v) shape h = subst (λ (s : Size). IsShape ((owned v ∷ []) ∷ []) s) (sym h) (alone (owned v))
-is_shape E (place.Range s) shape h =
-    let (rows, cols, some_rows, some_cols) = shaped (E.rows s.now) (E.cols s.now) shape h.0 in
-    record {
-      rows = length-rows E.value (E.cols s.now) (E.rows s.now) ∙ sym rows;
-      cols = first_width E.value (E.cols s.now) (E.rows s.now) some_rows ∙ sym cols;
-      some_cols = omega (arith, cols, some_cols);
-      count = length-items E.value (E.cols s.now) (E.rows s.now) ∙ (λ i. sym rows i * sym cols i);
-      item = λ i j k. ap (λ (w : ℕ). slice_get (items (range_values E s.now)) (i * w + j)) cols ∙ item E.value (E.cols s.now) (E.rows s.now) i j (let l : j < length (E.cols s.now) = omega (arith, cols, k) in l);
-      past = λ i j k. row_end E.value (E.cols s.now) (E.rows s.now) i j (let l : length (E.cols s.now) ≤ j = omega (arith, cols, k) in l);
-    }
-
-pub area_shape : (E : Environment) (at : Place) (shape : Size) (vs : List (List Value)) → HasShape E at shape → values_of E at ≡ vs → IsShape vs shape
-area_shape E at shape vs h e = subst (λ (m : List (List Value)). IsShape m shape) e (is_shape E at shape h)
+pub area_shape : (at : Place) (shape : Size) (vs : List (List Value)) → HasShape at shape → values_of at ≡ vs → IsShape vs shape
+area_shape at shape vs h e = subst (λ (m : List (List Value)). IsShape m shape) e (is_shape at shape h)
 
 some_or : (o : Option Value) (v : Value) → ok_or o fault.Lost ≡ Ok v → o ≡ Some v
 some_or None v e = absurd (cc)
 some_or (Some w) v e = cc
 
 module _ (vs : List (List Value)) (shape : Size) (is : IsShape vs shape) where
+  pub count : length (items vs) ≡ shape.rows * shape.cols
+  count = length-items shape.cols vs is.widths ∙ (λ i. is.rows i * shape.cols)
+
+  few : shape.rows * shape.cols ≤ 256000000
+  few = let m : shape.rows * shape.cols ≤ 16000 * 16000 = mul-le-mul is.few_rows is.few_cols in omega arith
+
+  pub few_items : length (items vs) ≤ 256000000
+  few_items = let c = count in let f = few in omega (arith, c, f)
+
+  -- so each row has a small number
+  pub small_row : (i : ℕ) → i < length (items vs) → i / shape.cols < 2 ^ 32
+  small_row i inside =
+      let c = few_items in
+      let l : i / shape.cols ≤ i = div-le_self i shape.cols in
+      omega (arith, c, l, inside)
+
+  pub value_there : (row col : ℕ) → row < length vs → col < width vs → item_at vs row col ≡ Ok (slice_index_or (slice_index_or vs row []) col value.Empty)
+  value_there row col h k = within shape.cols vs is.widths row col h (let e = is.cols in omega (arith, e, k))
+
+  pub only_items : shape.cols ≡ 1 → items vs ≡ column_of vs 0
+  only_items e = alone vs (subst (λ (n : ℕ). AreWide n vs) e is.widths)
+
   -- the row of an item
   pub in_rows : (i : ℕ) → i < length (items vs) → i / shape.cols < length vs
   in_rows i h =
       let e : length vs ≡ shape.rows = is.rows in
-      let k : i < shape.rows * shape.cols = let c = is.count in omega (arith, c, h) in
+      let k : i < shape.rows * shape.cols = let c = count in omega (arith, c, h) in
       let l : i / shape.cols < shape.rows = (div-lt_iff_lt-mul is.some_cols).1 k in
       omega (arith, e, l)
 
@@ -148,24 +147,11 @@ module _ (vs : List (List Value)) (shape : Size) (is : IsShape vs shape) where
   pub item_is : (i : ℕ) (v : Value) → item_at vs (i / shape.cols) (i % shape.cols) ≡ Ok v → slice_get (items vs) i ≡ Some v
   item_is i v e =
       ap (λ (k : ℕ). slice_get (items vs) k) (sym (div-add-mod' i shape.cols))
-      ∙ (is.item (i / shape.cols) (i % shape.cols) (in_cols i)
+      ∙ (item shape.cols vs is.widths (i / shape.cols) (i % shape.cols) (in_cols i)
       ∙ some_or (option_and_then (λ (r : List Value). slice_get r (i % shape.cols)) (slice_get vs (i / shape.cols))) v e)
 
   pub below_rows : (row col : ℕ) → shape.rows ≤ row → Err fault.Lost ≡ item_at vs row col
   below_rows row col h = ap (λ (o : Option (List Value)). ok_or (option_and_then (λ (r : List Value). slice_get r col) o) fault.Lost) (sym (slice_get_past vs row (let e = is.rows in omega (arith, e, h))))
 
   pub past_cols : (row col : ℕ) → shape.cols ≤ col → Err fault.Lost ≡ item_at vs row col
-  past_cols row col h = ap (λ (o : Option Value). ok_or o fault.Lost) (sym (is.past row col h))
-
--- no area is large
-pub few : (E : Environment) (at : Place) (shape : Size) → HasShape E at shape → shape.rows * shape.cols ≤ 256000000
-few E (place.Cell v) shape h = rw h (let z : 1 * 1 ≤ 256000000 = omega arith in z)
-few E (place.Range s) shape h = let m : shape.rows * shape.cols ≤ 16000 * 16000 = mul-le-mul h.1 h.2 in omega arith
-
--- so each row has a small number
-pub small_row : (E : Environment) (at : Place) (shape : Size) (vs : List (List Value)) (i : ℕ) → HasShape E at shape → IsShape vs shape → i < length (items vs) → i / shape.cols < 2 ^ 32
-small_row E at shape vs i h is inside =
-    let c = is.count in
-    let f = few E at shape h in
-    let l : i / shape.cols ≤ i = div-le_self i shape.cols in
-    omega (arith, c, f, l, inside)
+  past_cols row col h = ap (λ (o : Option Value). ok_or o fault.Lost) (sym (row_end shape.cols vs is.widths row col h))

@@ -1,20 +1,15 @@
 -- Cells and ranges as arguments, and lists of items.
 use Rattle.std.specs.Prelude.{ℕ, ℤ, ◌==◌, ◌&&◌, bytes_eq, if◌then◌else◌, is_some, Bool, false, List, [], ◌∷◌, length, map, flat_map, filter_map, slice_get, ok_or, option_map, option_and_then, Option, None, Some, Result, Ok, Err}
 use Rattle.std.specs.Ordering.{int_eq}
-use Rattle.ss_base.specs.declared.types.Span.{Span}
 use Rattle.ss_base.specs.declared.types.CalcErr.{CalcErr}
 use Rattle.ss_base.specs.declared.types.CalcErr.TheVariants as fault
 use Rattle.sheet_value.specs.declared.value.Value.{Value}
 use Rattle.sheet_value.specs.declared.value.Value.TheVariants as value
 use Rattle.sheet_value.specs.Values.{number_of}
-use Rattle.sheet_value.specs.Environment.{Environment, cell_value, range_shape}
+use Rattle.sheet_value.specs.Environment.{Environment, cell_value, range_shape, range_values}
 use Rattle.funcs.specs.declared.arg.Arg.{Arg}
 use Rattle.funcs.specs.declared.arg.Arg.TheVariants as arg
 use Rattle.funcs.specs.Steps.{all_of}
-
--- the values of a range row by row, of its visible cells
-abbrev pub range_values : Environment → Span → List (List Value)
-range_values E s = map (λ r. map (λ c. E.value r c) (E.cols s)) (E.rows s)
 
 -- The values of a cell or a range row by row. Any other argument is `#VALUE!`, a lost one `#REF!`.
 abbrev pub area : Environment → Arg → Result (List (List Value)) CalcErr

@@ -50,17 +50,17 @@ two_or_more (x ∷ y ∷ xs) = Ok (x, y ∷ xs)
 two_or_more xs = Err fault.BadKind
 
 -- an argument as a value: a range isn't one, and is `#VALUE!`, or `#REF!` where it is lost as a cell is
-abbrev pub value_of : Environment → Arg → Value
-value_of E (arg.One v) = v
-value_of E (arg.At s) = unwrap_or (cell_value E s) (value.Err fault.Lost)
-value_of E (arg.Over s) = value.Err (if is_some (range_shape E s) then fault.BadKind else fault.Lost)
+abbrev pub value_of_argument : Environment → Arg → Value
+value_of_argument E (arg.One v) = v
+value_of_argument E (arg.At s) = unwrap_or (cell_value E s) (value.Err fault.Lost)
+value_of_argument E (arg.Over s) = value.Err (if is_some (range_shape E s) then fault.BadKind else fault.Lost)
 
 -- an argument as a number, and as a text
 abbrev pub number : Environment → Arg → Result ℤ CalcErr
-number E a = number_of (value_of E a)
+number E a = number_of (value_of_argument E a)
 
 abbrev pub text : Environment → Arg → Result (List ℕ) CalcErr
-text E a = text_of (value_of E a)
+text E a = text_of (value_of_argument E a)
 
 -- a number that is 1 when left out
 abbrev pub number_or_one : Environment → Option Arg → Result ℤ CalcErr
@@ -78,7 +78,7 @@ criterion_of value.Empty = value.Num (pos 0)
 criterion_of v = v
 
 abbrev pub criterion : Environment → Arg → Result Value CalcErr
-criterion E a = and_then (no_error (value_of E a)) (λ v. Ok (criterion_of v))
+criterion E a = and_then (no_error (value_of_argument E a)) (λ v. Ok (criterion_of v))
 
 -- each text that is given directly has at most 127 bytes
 abbrev pub AreWithinLimit : List Arg → Type 0

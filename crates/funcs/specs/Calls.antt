@@ -7,7 +7,7 @@ use Rattle.sheet_value.specs.Environment.{Environment}
 use Rattle.formula_tree.specs.declared.functions.Fun.{Fun}
 use Rattle.formula_tree.specs.declared.functions.Fun.TheVariants as fun
 use Rattle.funcs.specs.declared.arg.Arg.{Arg}
-use Rattle.funcs.specs.Scalars.{abs_of, sign_of, mod_of, quotient_of, if_of, not_of, iferror_of, test_of, is_error, is_na, is_blank, is_number, is_text, na_of, constant_of, choose_of}
+use Rattle.funcs.specs.Scalars.{abs_of, sign_of, mod_of, quotient_of, if_of, not_of, iferror_of, test_of, is_error, is_na, is_blank, is_number, is_text, na_of, truth_of, choose_of}
 use Rattle.funcs.specs.Texts.{len_of, left_of, right_of, mid_of, concatenate_of, exact_of}
 use Rattle.funcs.specs.Lists.{sum_of, count_of, counta_of, min_of, max_of, and_of, or_of}
 use Rattle.funcs.specs.Tables.{index_of, match_of, vlookup_of, countif_of, sumif_of, sumproduct_of, rows_of, columns_of}
@@ -34,8 +34,8 @@ call_of fun.Isblank E args = test_of is_blank E args
 call_of fun.Isnumber E args = test_of is_number E args
 call_of fun.Istext E args = test_of is_text E args
 call_of fun.Na E args = na_of args
-call_of fun.True E args = constant_of true args
-call_of fun.False E args = constant_of false args
+call_of fun.True E args = truth_of true args
+call_of fun.False E args = truth_of false args
 call_of fun.Len E args = len_of E args
 call_of fun.Left E args = left_of E args
 call_of fun.Right E args = right_of E args

@@ -9,7 +9,7 @@ use Rattle.sheet_value.specs.Environment.{Environment}
 use Rattle.funcs.specs.declared.arg.Arg.{Arg}
 use Rattle.funcs.specs.Steps.{and_then}
 use Rattle.funcs.specs.Numbers.{number_value, truth, is_zero, divisor, floor_div, place}
-use Rattle.funcs.specs.Args.{none, one, two, two_or_three, two_or_more, value_of, number}
+use Rattle.funcs.specs.Args.{none, one, two, two_or_three, two_or_more, value_of_argument, number}
 
 -- ABS: the absolute value
 abbrev pub abs_of : Environment → List Arg → Result Value CalcErr
@@ -35,10 +35,10 @@ quotient_of E args = and_then (dividend_and_divisor E args) (λ p. number_value 
 -- IF: x where c isn't 0, else y, or 0 without y
 abbrev pub value_or_zero : Environment → Option Arg → Value
 value_or_zero E None = value.Num (pos 0)
-value_or_zero E (Some a) = value_of E a
+value_or_zero E (Some a) = value_of_argument E a
 
 abbrev pub if_of : Environment → List Arg → Result Value CalcErr
-if_of E args = and_then (two_or_three args) (λ p. and_then (number E p.0) (λ c. Ok (if is_zero c then value_or_zero E p.2 else value_of E p.1)))
+if_of E args = and_then (two_or_three args) (λ p. and_then (number E p.0) (λ c. Ok (if is_zero c then value_or_zero E p.2 else value_of_argument E p.1)))
 
 -- NOT: 1 for 0, else 0
 abbrev pub not_of : Environment → List Arg → Result Value CalcErr
@@ -50,7 +50,7 @@ is_error (value.Err e) = true
 is_error v = false
 
 abbrev pub iferror_of : Environment → List Arg → Result Value CalcErr
-iferror_of E args = and_then (two args) (λ p. Ok (if is_error (value_of E p.0) then value_of E p.1 else value_of E p.0))
+iferror_of E args = and_then (two args) (λ p. Ok (if is_error (value_of_argument E p.0) then value_of_argument E p.1 else value_of_argument E p.0))
 
 -- ISERROR and the like: 1 where the value passes a test, else 0; an error is no result here
 abbrev pub is_na : Value → Bool
@@ -70,16 +70,16 @@ is_text (value.Text t) = true
 is_text v = false
 
 abbrev pub test_of : (Value → Bool) → Environment → List Arg → Result Value CalcErr
-test_of test E args = and_then (one args) (λ a. Ok (truth (test (value_of E a))))
+test_of test E args = and_then (one args) (λ a. Ok (truth (test (value_of_argument E a))))
 
 -- NA, TRUE, FALSE
 abbrev pub na_of : List Arg → Result Value CalcErr
 na_of args = and_then (none args) (λ _. Err fault.Na)
 
-abbrev pub constant_of : Bool → List Arg → Result Value CalcErr
-constant_of b args = and_then (none args) (λ _. Ok (truth b))
+abbrev pub truth_of : Bool → List Arg → Result Value CalcErr
+truth_of b args = and_then (none args) (λ _. Ok (truth b))
 
 -- CHOOSE: the i-th value; no such one is `#VALUE!`
 abbrev pub choose_of : Environment → List Arg → Result Value CalcErr
 choose_of E args =
-    and_then (two_or_more args) (λ p. and_then (number E p.0) (λ i. and_then (place i) (λ k. and_then (ok_or (slice_get p.1 k) fault.BadKind) (λ a. Ok (value_of E a)))))
+    and_then (two_or_more args) (λ p. and_then (number E p.0) (λ i. and_then (place i) (λ k. and_then (ok_or (slice_get p.1 k) fault.BadKind) (λ a. Ok (value_of_argument E a)))))

@@ -1,5 +1,5 @@
 ghost use Rattle.std.specs.Prelude.{◌≡◌};
-ghost use Rattle.funcs.specs.Args.{value_of, number};
+ghost use Rattle.funcs.specs.Args.{value_of_argument, number};
 ghost use Rattle.funcs.specs.Refs.{owned};
 
 use crate::value_ref::ValueRef;
@@ -16,12 +16,12 @@ pub enum Arg {
 
 /// An argument as a value.
 pub(crate) fn value<'a, L: Look>(arg: &'a Arg, look: &'a L) -> ValueRef<'a>
-    ensures { owned result ≡ value_of (L.environment look.now) arg.now }
+    ensures { owned result ≡ value_of_argument (L.environment look.now) arg.now }
 {
     match arg {
         Arg::One(v) => ValueRef::of(v),
         Arg::At(spot) => ValueRef::seen(look.cell(spot)),
-        Arg::Over(span) => match look.shape(span) {
+        Arg::Over(span) => match look.range(span) {
             Some(_) => ValueRef::Err(CalcErr::BadKind),
             None => ValueRef::Err(CalcErr::Lost),
         },

@@ -3,7 +3,7 @@ ghost use Rattle.sheet_value.specs.Environment.{HasShortTexts};
 ghost use Rattle.sheet_value.specs.Values.{IsWithinLimit};
 ghost use Rattle.funcs.specs.Args.{AreWithinLimit};
 ghost use Rattle.funcs.specs.Steps.{answer};
-ghost use Rattle.funcs.specs.Scalars.{abs_of, sign_of, mod_of, quotient_of, if_of, not_of, iferror_of, test_of, is_error, is_na, is_blank, is_number, is_text, na_of, constant_of, choose_of};
+ghost use Rattle.funcs.specs.Scalars.{abs_of, sign_of, mod_of, quotient_of, if_of, not_of, iferror_of, test_of, is_error, is_na, is_blank, is_number, is_text, na_of, truth_of, choose_of};
 ghost use Rattle.funcs.specs.Texts.{len_of, left_of, right_of, mid_of, concatenate_of, exact_of};
 ghost use Rattle.funcs.specs.Lists.{sum_of, count_of, counta_of, min_of, max_of, and_of, or_of};
 ghost use Rattle.funcs.specs.Tables.{index_of, match_of, vlookup_of, countif_of, sumif_of, sumproduct_of, rows_of, columns_of};
@@ -168,14 +168,14 @@ pub fn na_fn<L: Look>(_alloc: Global, args: &[Arg], _look: &L) -> Result<Value, 
 
 /// TRUE: 1.
 pub fn true_fn<L: Look>(_alloc: Global, args: &[Arg], _look: &L) -> Result<Value, Memory>
-    ensures { result ≡ Ok (answer (constant_of true args.now)) }
+    ensures { result ≡ Ok (answer (truth_of true args.now)) }
 {
     Ok(answer(scalar::constant(true, args)))
 }
 
 /// FALSE: 0.
 pub fn false_fn<L: Look>(_alloc: Global, args: &[Arg], _look: &L) -> Result<Value, Memory>
-    ensures { result ≡ Ok (answer (constant_of false args.now)) }
+    ensures { result ≡ Ok (answer (truth_of false args.now)) }
 {
     Ok(answer(scalar::constant(false, args)))
 }

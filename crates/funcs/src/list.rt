@@ -1,4 +1,6 @@
-ghost use Rattle.std.specs.Prelude.{◌≡◌, ◌^◌, ◌+◌, ◌<◌, ◌≤◌, [], ◌∷◌, length, count_by, IfOk};
+ghost use Rattle.std.specs.Prelude.{◌≡◌, ◌≢◌, ◌^◌, ◌+◌, ◌<◌, ◌≤◌, [], ◌∷◌, Ok, length, count_by, IfOk};
+ghost use Rattle.ss_base.specs.declared.types.CalcErr.{CalcErr};
+ghost use Rattle.sheet_value.specs.declared.value.Value.TheVariants as value;
 ghost use Rattle.funcs.specs.Areas.{items, item_value, items_of, item_numbers, sheet_numbers, numbers, direct};
 ghost use Rattle.funcs.specs.Counts.{counts, counted_of};
 ghost use Rattle.funcs.specs.Lists.{numbers_given, sum_of, min_of, max_of, and_of, or_of};
@@ -27,17 +29,62 @@ pub(crate) fn with_value(found: Tally, v: ValueRef<'_>) -> Result<Tally, CalcErr
     }
 }
 
-/// With the numbers of an area.
-fn with_area<L: Look>(found: Tally, area: &Area<'_, L>) -> Result<Tally, CalcErr>
+/// Adds the number of a value that isn't an error, if it is one. It is added in place: a tally that
+/// is handed on is copied, and a column is gone through faster than that.
+fn add_number_of(found: &mut Tally, v: ValueRef<'_>)
+    requires { found.old.count < 2 ^ 63 }
+    ensures numbers { ((e : CalcErr) → owned v.entry ≢ value.Err e) → Ok found.new ≡ with_numbers found.old (sheet_numbers (owned v.entry ∷ [])) }
+    ensures few { found.new.count ≤ found.old.count + 1 }
+{
+    if let ValueRef::Num(n) = v {
+        found.add(n);
+    }
+}
+
+/// With the numbers of a column.
+fn with_column(found: Tally, values: &[Value]) -> Result<Tally, CalcErr>
+    requires count { found.count ≤ 2 ^ 62 }
+    requires few { length values.now ≤ 256000000 }
+    ensures numbers { result ≡ with_numbers found (sheet_numbers values.now) }
+    ensures few { IfOk result (λ t. t.count ≤ found.count + length values.now) }
+{
+    let mut found = found;
+    for v in values {
+        if let Value::Err(e) = v {
+            return Err(*e);
+        }
+        add_number_of(&mut found, ValueRef::of(v));
+    }
+    Ok(found)
+}
+
+/// With the numbers of an area, item by item.
+fn with_items(found: Tally, area: &Area<'_>) -> Result<Tally, CalcErr>
     requires { found.count ≤ 2 ^ 62 }
     ensures numbers { result ≡ with_numbers found (sheet_numbers (items area.now)) }
     ensures few { IfOk result (λ t. t.count ≤ found.count + 256000000) }
 {
     let mut found = found;
     for i in 0..area.count() {
-        found = with_value(found, area.item(i))?;
+        let v = area.item(i);
+        if let ValueRef::Err(e) = v {
+            return Err(e);
+        }
+        add_number_of(&mut found, v);
     }
     Ok(found)
+}
+
+/// With the numbers of an area.
+fn with_area(found: Tally, area: &Area<'_>) -> Result<Tally, CalcErr>
+    requires { found.count ≤ 2 ^ 62 }
+    ensures numbers { result ≡ with_numbers found (sheet_numbers (items area.now)) }
+    ensures few { IfOk result (λ t. t.count ≤ found.count + 256000000) }
+{
+    match area.only_column() {
+        Some(values) => with_column(found, values),
+        None => with_items(found, area),
+    }
 }
 
 /// With a value that is given directly, as a number.
@@ -152,8 +199,21 @@ impl Counted<'_> {
     }
 }
 
-/// How many items of an area are counted.
-pub(crate) fn count_area<L: Look>(area: &Area<'_, L>, counted: Counted<'_>) -> u64
+/// How many values of a column are counted.
+fn count_column(values: &[Value], counted: Counted<'_>) -> u64
+    requires { length values.now ≤ 256000000 }
+    ensures count { result ≡ count_by (λ v. counts counted.entry v) values.now }
+    ensures few { result ≤ 256000000 }
+{
+    let mut count = 0;
+    for v in values {
+        count += u64::from(counted.counts(ValueRef::of(v)));
+    }
+    count
+}
+
+/// How many items of an area are counted, item by item.
+fn count_items(area: &Area<'_>, counted: Counted<'_>) -> u64
     ensures count { result ≡ count_by (λ v. counts counted.entry v) (items area.now) }
     ensures few { result ≤ 256000000 }
 {
@@ -162,6 +222,17 @@ pub(crate) fn count_area<L: Look>(area: &Area<'_, L>, counted: Counted<'_>) -> u
         count += u64::from(counted.counts(area.item(i)));
     }
     count
+}
+
+/// How many items of an area are counted.
+pub(crate) fn count_area(area: &Area<'_>, counted: Counted<'_>) -> u64
+    ensures count { result ≡ count_by (λ v. counts counted.entry v) (items area.now) }
+    ensures few { result ≤ 256000000 }
+{
+    match area.only_column() {
+        Some(values) => count_column(values, counted),
+        None => count_items(area, counted),
+    }
 }
 
 /// How many items of an argument are counted.

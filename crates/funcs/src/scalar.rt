@@ -1,6 +1,6 @@
 ghost use Rattle.std.specs.Prelude.{◌≡◌};
 ghost use Rattle.funcs.specs.Refs.{owned_result};
-ghost use Rattle.funcs.specs.Scalars.{abs_of, sign_of, dividend_and_divisor, mod_of, quotient_of, if_of, not_of, iferror_of, test_of, is_error, is_na, is_blank, is_number, is_text, na_of, constant_of, choose_of};
+ghost use Rattle.funcs.specs.Scalars.{abs_of, sign_of, dividend_and_divisor, mod_of, quotient_of, if_of, not_of, iferror_of, test_of, is_error, is_na, is_blank, is_number, is_text, na_of, truth_of, choose_of};
 
 use crate::arg::{Arg, number, value};
 use crate::arity::{none, one, two, two_or_more, two_or_three};
@@ -127,7 +127,7 @@ pub(crate) fn na(args: &[Arg]) -> Result<Value, CalcErr>
 }
 
 pub(crate) fn constant(b: bool, args: &[Arg]) -> Result<Value, CalcErr>
-    ensures { result ≡ constant_of b args.now }
+    ensures { result ≡ truth_of b args.now }
 {
     none(args)?;
     Ok(truth(b))

@@ -1,5 +1,6 @@
 ghost use Rattle.std.specs.Prelude.{◌≡◌, ◌^◌, ◌+◌, ◌*ℤ◌, ◌<◌, ◌≤◌, [], ◌∷◌, Ok, Err, None, find, length, slice_get, IfOk, IfSome, OnOk, MatchOption, MatchResult};
 ghost use Rattle.std.specs.List.{position_from};
+ghost use Rattle.sheet_value.specs.declared.value.Value.TheVariants as value;
 ghost use Rattle.funcs.specs.Areas.{items, width, same, same_shape, sheet_numbers};
 ghost use Rattle.funcs.specs.Args.{criterion};
 ghost use Rattle.funcs.specs.Numbers.{in_range};
@@ -17,7 +18,7 @@ use crate::tally::Tally;
 use crate::text::number_or_one;
 use crate::value_ref::ValueRef;
 use sheet_value::{Look, Value};
-use ss_base::CalcErr;
+use ss_base::{CalcErr, Txt};
 
 /// What items are compared with.
 fn criterion<'a, L: Look>(arg: &'a Arg, look: &'a L) -> Result<ValueRef<'a>, CalcErr>
@@ -57,7 +58,7 @@ fn exact_match(m: i64) -> Result<(), CalcErr>
 }
 
 /// A single row or column.
-fn line<L: Look>(area: &Area<'_, L>) -> Result<(), CalcErr>
+fn line(area: &Area<'_>) -> Result<(), CalcErr>
     ensures { MatchResult result (λ _. line area.now ≡ Ok (items area.now)) (λ e. line area.now ≡ Err e) }
 {
     if area.rows() == 1 || area.cols() == 1 {
@@ -66,17 +67,95 @@ fn line<L: Look>(area: &Area<'_, L>) -> Result<(), CalcErr>
     Err(CalcErr::BadKind)
 }
 
-/// The place from 1 of the first item that is the same.
-fn position<L: Look>(area: &Area<'_, L>, x: ValueRef<'_>) -> Option<usize>
-    ensures value { result ≡ position_from (λ v. same v (owned x.entry)) 1 (items area.now) }
-    ensures few { IfSome result (λ k. k ≤ 256000000) }
+/// The place from 0 of the first value that is this number.
+fn number_place(values: &[Value], n: i64) -> Option<usize>
+    ensures place { result ≡ position_from (λ v. same v (value.Num n)) 0 values.now }
+    ensures inside { IfSome result (λ i. i < length values.now) }
 {
-    for i in 0..area.count() {
-        if area.item(i).is_same(x) {
-            return Some(i + 1);
+    for (i, v) in values.iter().enumerate() {
+        if is_number(v, n) {
+            return Some(i);
         }
     }
     None
+}
+
+fn is_number(v: &Value, n: i64) -> bool
+    ensures { result ≡ same v.now (value.Num n) }
+{
+    match v {
+        Value::Num(m) => *m == n,
+        Value::Empty | Value::Text(_) | Value::Err(_) => false,
+    }
+}
+
+/// The place from 0 of the first value that is this text.
+fn text_place(values: &[Value], t: &Txt) -> Option<usize>
+    ensures place { result ≡ position_from (λ v. same v (value.Text t.now)) 0 values.now }
+    ensures inside { IfSome result (λ i. i < length values.now) }
+{
+    for (i, v) in values.iter().enumerate() {
+        if is_text(v, t) {
+            return Some(i);
+        }
+    }
+    None
+}
+
+fn is_text(v: &Value, t: &Txt) -> bool
+    ensures { result ≡ same v.now (value.Text t.now) }
+{
+    match v {
+        Value::Text(s) => s.bytes() == t.bytes(),
+        Value::Empty | Value::Num(_) | Value::Err(_) => false,
+    }
+}
+
+/// The place from 0 of the first value that is the same. No other is examined after it.
+fn place_in_column(values: &[Value], x: ValueRef<'_>) -> Option<usize>
+    ensures place { result ≡ position_from (λ v. same v (owned x.entry)) 0 values.now }
+    ensures inside { IfSome result (λ i. i < length values.now) }
+{
+    match x {
+        ValueRef::Num(n) => number_place(values, n),
+        ValueRef::Text(t) => text_place(values, t),
+        ValueRef::Empty | ValueRef::Err(_) => None,
+    }
+}
+
+/// The place from 0 of the first item that is the same, item by item.
+fn place_in_items(area: &Area<'_>, x: ValueRef<'_>) -> Option<usize>
+    ensures place { result ≡ position_from (λ v. same v (owned x.entry)) 0 (items area.now) }
+    ensures few { IfSome result (λ i. i < 256000000) }
+{
+    for i in 0..area.count() {
+        if area.item(i).is_same(x) {
+            return Some(i);
+        }
+    }
+    None
+}
+
+/// The place from 0 of the first item that is the same.
+fn place_in(area: &Area<'_>, x: ValueRef<'_>) -> Option<usize>
+    ensures place { result ≡ position_from (λ v. same v (owned x.entry)) 0 (items area.now) }
+    ensures few { IfSome result (λ i. i < 256000000) }
+{
+    match area.only_column() {
+        Some(values) => place_in_column(values, x),
+        None => place_in_items(area, x),
+    }
+}
+
+/// The place from 1 of the first item that is the same.
+fn position(area: &Area<'_>, x: ValueRef<'_>) -> Option<usize>
+    ensures value { result ≡ position_from (λ v. same v (owned x.entry)) 1 (items area.now) }
+    ensures few { IfSome result (λ k. k ≤ 256000000) }
+{
+    match place_in(area, x) {
+        Some(i) => Some(i + 1),
+        None => None,
+    }
 }
 
 pub(crate) fn match_place<L: Look>(args: &[Arg], look: &L) -> Result<Value, CalcErr>
@@ -95,7 +174,7 @@ pub(crate) fn match_place<L: Look>(args: &[Arg], look: &L) -> Result<Value, Calc
 }
 
 /// A column of the shape.
-fn column<L: Look>(area: &Area<'_, L>, col: usize) -> Result<usize, CalcErr>
+fn column(area: &Area<'_>, col: usize) -> Result<usize, CalcErr>
     ensures { result ≡ column area.now col }
 {
     if col < area.cols() as usize {
@@ -105,29 +184,20 @@ fn column<L: Look>(area: &Area<'_, L>, col: usize) -> Result<usize, CalcErr>
 }
 
 /// The first row that begins with the same item.
-fn find_row<L: Look>(area: &Area<'_, L>, x: ValueRef<'_>) -> Option<u32>
+fn find_row(area: &Area<'_>, x: ValueRef<'_>) -> Option<usize>
     requires { 0 < width area.now }
     ensures { MatchOption result (find (begins_with (owned x.entry)) area.now ≡ None) (λ row. (row < length area.now) × (find (begins_with (owned x.entry)) area.now ≡ slice_get area.now row)) }
 {
-    for row in 0..area.rows() {
-        if area.at(row, 0).is_same(x) {
-            return Some(row);
-        }
-    }
-    None
+    place_in_column(area.column(0), x)
 }
 
 /// The item in a column of that row.
-fn looked_up<'a, L: Look>(
-    area: &Area<'a, L>,
-    x: ValueRef<'_>,
-    col: usize,
-) -> Result<ValueRef<'a>, CalcErr>
+fn looked_up<'a>(area: &Area<'a>, x: ValueRef<'_>, col: usize) -> Result<ValueRef<'a>, CalcErr>
     requires { col < width area.now }
     ensures { owned_result result ≡ looked_up (owned x.entry) col area.now }
 {
     match find_row(area, x) {
-        Some(row) => area.get(row as usize, col),
+        Some(row) => area.get(row, col),
         None => Err(CalcErr::Na),
     }
 }
@@ -160,7 +230,7 @@ pub(crate) fn countif<L: Look>(args: &[Arg], look: &L) -> Result<Value, CalcErr>
 }
 
 /// Two areas of one shape.
-fn same_shape<L: Look>(xs: &Area<'_, L>, ys: &Area<'_, L>) -> Result<(), CalcErr>
+fn same_shape(xs: &Area<'_>, ys: &Area<'_>) -> Result<(), CalcErr>
     ensures shape { result ≡ same_shape xs.now ys.now }
     ensures count { OnOk result (length (items xs.now) ≡ length (items ys.now)) }
 {
@@ -188,11 +258,7 @@ fn with_same(
 }
 
 /// The exact total of the numbers of the items whose items beside them are the same.
-fn chosen_total<L: Look>(
-    area: &Area<'_, L>,
-    x: ValueRef<'_>,
-    sums: &Area<'_, L>,
-) -> Result<Value, CalcErr>
+fn chosen_total(area: &Area<'_>, x: ValueRef<'_>, sums: &Area<'_>) -> Result<Value, CalcErr>
     requires { length (items area.now) ≡ length (items sums.now) }
     ensures { result ≡ chosen_total (owned x.entry) area.now sums.now }
 {
@@ -215,7 +281,7 @@ pub(crate) fn sumif<L: Look>(args: &[Arg], look: &L) -> Result<Value, CalcErr>
 }
 
 /// Whether no item is an error; the first one is the result.
-fn no_errors<L: Look>(area: &Area<'_, L>) -> Result<(), CalcErr>
+fn no_errors(area: &Area<'_>) -> Result<(), CalcErr>
     ensures { MatchResult result (λ _. no_errors area.now ≡ Ok (items area.now)) (λ e. no_errors area.now ≡ Err e) }
 {
     for i in 0..area.count() {
@@ -254,7 +320,7 @@ fn with_product(found: Tally, v: ValueRef<'_>, w: ValueRef<'_>) -> Result<Tally,
 }
 
 /// The exact total of the products place by place; the first that has no 64 bits is the result.
-fn product_total<L: Look>(xs: &Area<'_, L>, ys: &Area<'_, L>) -> Result<Value, CalcErr>
+fn product_total(xs: &Area<'_>, ys: &Area<'_>) -> Result<Value, CalcErr>
     requires { length (items xs.now) ≡ length (items ys.now) }
     ensures { result ≡ product_total (items xs.now) (items ys.now) }
 {

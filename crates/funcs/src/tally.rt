@@ -42,18 +42,26 @@ impl Tally {
     }
 
     /// One more number. There are fewer than 2^63 before it, so the total has 128 bits.
+    pub(crate) fn add(&mut self, n: i64)
+        requires { self.old.count < 2 ^ 63 }
+        ensures { self.new ≡ with_number self.old n }
+    {
+        self.count += 1;
+        self.total += i128::from(n);
+        self.least = Some(least_with(self.least, n));
+        self.greatest = Some(greatest_with(self.greatest, n));
+        self.all_true = all_with(self.all_true, n);
+        self.any_true = any_with(self.any_true, n);
+    }
+
+    /// The same, for a tally that is handed on.
     pub(crate) fn with(self, n: i64) -> Tally
         requires { self.count < 2 ^ 63 }
         ensures { result ≡ with_number self n }
     {
-        Tally {
-            count: self.count + 1,
-            total: self.total + i128::from(n),
-            least: Some(least_with(self.least, n)),
-            greatest: Some(greatest_with(self.greatest, n)),
-            all_true: all_with(self.all_true, n),
-            any_true: any_with(self.any_true, n),
-        }
+        let mut found = self;
+        found.add(n);
+        found
     }
 
     /// The exact total.

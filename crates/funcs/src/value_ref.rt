@@ -1,4 +1,5 @@
 ghost use Rattle.std.specs.Prelude.{◌≡◌, IfOk, unwrap_or};
+ghost use Rattle.std.specs.Option.{option_copied};
 ghost use Rattle.ss_base.specs.declared.types.CalcErr.TheVariants as fault;
 ghost use Rattle.sheet_value.specs.declared.value.Value.TheVariants as value;
 ghost use Rattle.sheet_value.specs.Values.{number_of, text_of};
@@ -31,6 +32,16 @@ impl<'a> ValueRef<'a> {
             Value::Num(n) => ValueRef::Num(*n),
             Value::Text(t) => ValueRef::Text(t),
             Value::Err(e) => ValueRef::Err(*e),
+        }
+    }
+
+    /// What is found, `None` for an empty value.
+    pub(crate) fn found(found: Option<&'a Value>) -> ValueRef<'a>
+        ensures { owned result ≡ unwrap_or (option_copied found.entry) value.Empty }
+    {
+        match found {
+            Some(value) => ValueRef::of(value),
+            None => ValueRef::Empty,
         }
     }
 

@@ -1,5 +1,7 @@
 pub mod Building
 pub mod Filled
+pub mod Gathered
 pub mod Lists
+pub mod Seats
 pub mod Spans
 pub mod Within

@@ -1,9 +1,7 @@
 -- Lookups in lists, and the areas of calls.
-use Rattle.std.proofs.Common.{◌≡◌, ℕ, zero, suc, ◌≤◌, List, [], ◌∷◌, ◌++◌, length, map, refl, ap, ◌∙◌, Bool, arith, Some, None}
+use Rattle.std.proofs.Common.{◌≡◌, ℕ, zero, suc, ◌≤◌, List, [], ◌∷◌, ◌++◌, length, map, refl, ap, ◌∙◌, Bool, arith, Some}
 use Rattle.std.specs.Prelude.{slice_get}
 use Rattle.std.specs.List.{flat_map}
-use Rattle.std.specs.Ordering.{nat_cmp}
-use Rattle.std.specs.BTreeMap.{BTreeMap, get}
 use Rattle.ss_base.specs.declared.types.Spot.{Spot}
 use Rattle.ss_base.specs.declared.types.Span.{Span}
 use Rattle.formula_tree.specs.declared.functions.Fun.{Fun}
@@ -13,18 +11,8 @@ use Rattle.formula_tree.specs.Erase.{tree_of}
 use Rattle.formula_tree.proofs.Trees.{tree_of-call}
 use Rattle.sheet_graph.specs.declared.areas.Area.{Area}
 use Rattle.sheet_graph.specs.declared.graph.Node.{Node}
-use Rattle.sheet_graph.specs.Areas.{number_in, areas_in, areas_in_all, expr_areas}
+use Rattle.sheet_graph.specs.Areas.{areas_in, areas_in_all, expr_areas}
 use Rattle.sheet_graph.specs.Graphs.{areas_of}
-
-pub number_found : (ms : List (BTreeMap ℕ ℕ)) (row col : ℕ) (m : BTreeMap ℕ ℕ) → slice_get ms row ≡ Some m → number_in ms row col ≡ get nat_cmp m col
-number_found [] row col m h = absurd (cc)
-number_found (x ∷ ms) zero col m h = let e : x ≡ m = cc in ap (λ (y : BTreeMap ℕ ℕ). get nat_cmp y col) e
-number_found (x ∷ ms) (suc row) col m h = number_found ms row col m h
-
-pub number_past : (ms : List (BTreeMap ℕ ℕ)) (row col : ℕ) → length ms ≤ row → number_in ms row col ≡ None
-number_past [] row col h = refl
-number_past (x ∷ ms) zero col h = absurd (omega arith)
-number_past (x ∷ ms) (suc row) col h = number_past ms row col (omega arith)
 
 pub areas_found : (nodes : List Node) (n : ℕ) (x : Node) → slice_get nodes n ≡ Some x → areas_of nodes n ≡ x.areas.items
 areas_found [] n x h = absurd (cc)

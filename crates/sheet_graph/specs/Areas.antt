@@ -1,8 +1,6 @@
 -- Rectangles of cells, and the numbers of the cells in them that have one.
-use Rattle.std.specs.Prelude.{ℕ, Bool, zero, suc, ◌+◌, ◌-◌, max, nat_lt, if◌then◌else◌, List, [], ◌∷◌, ◌++◌, flat_map, Option, None, Some}
+use Rattle.std.specs.Prelude.{ℕ, Bool, zero, suc, ◌+◌, ◌-◌, List, [], ◌∷◌, ◌++◌, Option, None, Some}
 use Rattle.std.specs.List.{cons_option}
-use Rattle.std.specs.Ordering.{nat_cmp}
-use Rattle.std.specs.BTreeMap.{BTreeMap, get}
 use Rattle.ss_base.specs.declared.types.Spot.{Spot}
 use Rattle.ss_base.specs.declared.types.Span.{Span}
 use Rattle.formula_tree.specs.Tree.{Tree, Trees, num, text, fault, cell, range, pre, bin, call, none, more}
@@ -10,12 +8,6 @@ use Rattle.formula_tree.specs.declared.expression.Expr.{Expr}
 use Rattle.formula_tree.specs.Erase.{tree_of}
 use Rattle.marked_lines.specs.Marks.{visible_of, span_of}
 use Rattle.sheet_graph.specs.declared.areas.Area.{Area}
-
--- the number of a row's and a column's cell, by a map for each row
-abbrev pub number_in : List (BTreeMap ℕ ℕ) → ℕ → ℕ → Option ℕ
-number_in [] row col = None
-number_in (m ∷ ms) zero col = get nat_cmp m col
-number_in (m ∷ ms) (suc row) col = number_in ms row col
 
 -- so many numbers, from one on
 abbrev pub indexes_from : ℕ → ℕ → List ℕ
@@ -35,19 +27,6 @@ module _ (number : ℕ → ℕ → Option ℕ) where
 
   abbrev pub in_area : Area → List ℕ
   in_area a = in_rows a.left (a.right - a.left) a.top (a.bottom - a.top)
-
-  -- those that are left from a row and a column inside on
-  abbrev pub left_inside : Area → ℕ → ℕ → List ℕ
-  left_inside a row col = if nat_lt row a.bottom then in_row row col (a.right - col) ++ in_rows a.left (a.right - a.left) (suc row) (a.bottom - suc row) else []
-
-  -- from a row and a column on; one before the first counts as the first
-  abbrev pub left_in_area : Area → ℕ → ℕ → List ℕ
-  left_in_area a row col = left_inside a (max row a.top) (max col a.left)
-
-  abbrev pub left_in_areas : List Area → ℕ → ℕ → ℕ → List ℕ
-  left_in_areas [] k row col = []
-  left_in_areas (a ∷ areas) zero row col = left_in_area a row col ++ flat_map in_area areas
-  left_in_areas (a ∷ areas) (suc k) row col = left_in_areas areas k row col
 
 -- ---- the areas that a formula refers to, where lines have these marks
 abbrev pub area_at : Option ℕ → Option ℕ → List Area

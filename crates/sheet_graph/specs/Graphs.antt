@@ -1,17 +1,17 @@
 -- The graph of a sheet: its formula cells under numbers.
 use Rattle.std.specs.Prelude.{ℕ, ◌≡◌, ◌<◌, ◌≤◌, ◌⊎◌, ◌&&◌, zero, suc, nat_eq, Bool, true, false, if◌then◌else◌, List, [], ◌∷◌, length, Option, None, Some, slice_get}
 use Rattle.std.specs.List.{flat_map}
-use Rattle.std.specs.Ordering.{nat_cmp}
-use Rattle.std.specs.BTreeMap.{BTreeMap, get}
 use Rattle.marked_lines.specs.Marks.{visible_places}
 use Rattle.sheet_ops.specs.declared.content.Content.{Content}
 use Rattle.sheet_ops.specs.declared.content.Content.TheVariants as content
 use Rattle.sheet_ops.specs.Placed.{PlacedSheet, cell_at}
-use Rattle.cell_walk.specs.declared.walking.Place.{Place}
+use Rattle.cell_walk.specs.declared.walking.Progress.{Progress}
 use Rattle.cell_walk.specs.Walks.{IsIn, AreDistinct}
 use Rattle.sheet_graph.specs.declared.areas.Area.{Area}
+use Rattle.sheet_graph.specs.declared.columns.FormulaCell.{FormulaCell}
 use Rattle.sheet_graph.specs.declared.graph.Node.{Node}
-use Rattle.sheet_graph.specs.Areas.{number_in, in_area, left_in_areas, areas_in}
+use Rattle.sheet_graph.specs.Areas.{in_area, areas_in}
+use Rattle.sheet_graph.specs.Columns.{number_in, listed_in, left_in_areas}
 
 -- the areas of the formula cell with a number
 abbrev pub areas_of : List Node → ℕ → List Area
@@ -19,19 +19,20 @@ areas_of [] cell = []
 areas_of (x ∷ nodes) zero = x.areas.items
 areas_of (x ∷ nodes) (suc cell) = areas_of nodes cell
 
--- the formula cells that one mentions, and those that are left from a place on
-abbrev pub mentions_in : List Node → List (BTreeMap ℕ ℕ) → ℕ → List ℕ
-mentions_in nodes numbers cell = flat_map (in_area (number_in numbers)) (areas_of nodes cell)
+-- the formula cells that one mentions
+abbrev pub mentions_in : List Node → List (List FormulaCell) → ℕ → List ℕ
+mentions_in nodes columns cell = flat_map (in_area (number_in columns)) (areas_of nodes cell)
 
-abbrev pub rest_in : List Node → List (BTreeMap ℕ ℕ) → ℕ → Place → List ℕ
-rest_in nodes numbers cell place = left_in_areas (number_in numbers) (areas_of nodes cell) place.reference place.row place.col
+-- the same, each area column by column; and those that are left from a place on
+abbrev pub mentions_listed : List Node → List (List FormulaCell) → ℕ → List ℕ
+mentions_listed nodes columns cell = flat_map (listed_in columns) (areas_of nodes cell)
 
--- what a row's map holds under each column
-abbrev pub held : BTreeMap ℕ ℕ → ℕ → Option ℕ
-held row col = get nat_cmp row col
+abbrev pub mentions_left : List Node → List (List FormulaCell) → ℕ → Progress → List ℕ
+mentions_left nodes columns cell place = left_in_areas columns (areas_of nodes cell) place.reference place.col
 
-abbrev pub with_number : (ℕ → Option ℕ) → ℕ → ℕ → ℕ → Option ℕ
-with_number numbers col n k = if nat_eq col k then Some n else numbers k
+pub record HaveSameMembers (xs ys : List ℕ) : Type 0 where
+  pub there : (n : ℕ) → IsIn n xs → IsIn n ys
+  pub back : (n : ℕ) → IsIn n ys → IsIn n xs
 
 -- with a number for one cell
 abbrev pub number_set : (ℕ → ℕ → Option ℕ) → ℕ → ℕ → ℕ → ℕ → ℕ → Option ℕ
@@ -79,6 +80,6 @@ pub record IsGraphOf (P : PlacedSheet) (cells : ℕ → ℕ → Type 0) (nodes :
 abbrev pub IsGraph : PlacedSheet → List Node → (ℕ → ℕ → Option ℕ) → Type 0
 IsGraph P nodes number = IsGraphOf P (λ r c. Unit {0}) nodes number
 
--- the graph of the rows before one, and of some cells of that row
+-- the graph of the columns before one, and of some cells of that column
 abbrev pub IsGraphTo : PlacedSheet → ℕ → List ℕ → List Node → (ℕ → ℕ → Option ℕ) → Type 0
-IsGraphTo P row cols nodes number = IsGraphOf P (λ r c. (r < row) ⊎ ((r ≡ row) × IsIn c cols)) nodes number
+IsGraphTo P col rows nodes number = IsGraphOf P (λ r c. (c < col) ⊎ ((c ≡ col) × IsIn r rows)) nodes number

@@ -1,21 +1,24 @@
-ghost use Rattle.std.specs.Prelude.{◌≡◌, ◌<◌, ◌≤◌, ◌+◌, ◌-◌, ◌*◌, ◌^◌, ◌++◌, ℕ, List, [], ◌∷◌, length, IfOk, OnOk};
-ghost use Rattle.cell_walk.specs.Walks.{IsIn, IsWithin};
+ghost use Rattle.std.specs.Prelude.{◌≡◌, ◌<◌, ◌≤◌, ◌+◌, ◌*◌, ◌^◌, ◌++◌, ℕ, List, [], ◌∷◌, length, IfOk, OnOk};
+ghost use Rattle.std.specs.List.{AllByRecursion};
+ghost use Rattle.cell_walk.specs.Walks.{IsIn, MentionsWithin};
 ghost use Rattle.sheet_grid.specs.Values.{placed_in};
 ghost use Rattle.sheet_grid.specs.Cells.{visible_size};
-ghost use Rattle.sheet_graph.specs.Areas.{number_in};
-ghost use Rattle.sheet_graph.specs.Graphs.{areas_of, mentions_in, rest_in, held, with_number, number_set, HoldsFilled, IsFoundAt, IsGraphTo, IsGraph};
+ghost use Rattle.sheet_graph.specs.Columns.{IsRising, EndsAt, column_at, number_in};
+ghost use Rattle.sheet_graph.specs.Filled.{HoldsRows};
+ghost use Rattle.sheet_graph.specs.Graphs.{areas_of, mentions_in, mentions_listed, mentions_left, number_set, HaveSameMembers, IsFoundAt, IsGraphTo, IsGraph};
 ghost use Rattle.sheet_graph.specs.Cursor.{all_left};
 
 use crate::areas::{Area, next_in_areas};
-use crate::cells::{content_seen, filled_in_row};
+use crate::by_column::filled_rows;
+use crate::cells::content_seen;
+use crate::columns::{Column, empty_columns};
 use crate::references::push_areas;
-use cell_walk::{Mentions, Place};
+use cell_walk::{Interval, Mentions, Progress};
 use formula_tree::Formula;
 use sheet_grid::Sheet;
 use sheet_ops::Content;
 use ss_base::Memory;
 use std::alloc::Global;
-use std::collections::BTreeMap;
 
 /// A formula cell, by visible indexes, and the visible areas that its formula refers to.
 #[derive(Debug, Drop)]
@@ -26,24 +29,24 @@ pub struct Node {
     pub areas: Vec<Area>,
 }
 
-/// The formula cells of a sheet under numbers from 0 on, and for each visible row the numbers of its
-/// formula cells by their columns.
+/// The formula cells of a sheet under numbers from 0 on, column by column, and those of each visible
+/// column.
 #[derive(Debug, Drop)]
 pub struct Graph {
     pub nodes: Vec<Node>,
-    pub numbers: Vec<BTreeMap<u32, u32>>,
+    pub columns: Vec<Column>,
 }
 
 impl Mentions for Graph {
-    ghost mentions = { λ g. mentions_in g.nodes.items g.numbers.items };
+    ghost mentions = { λ g. mentions_listed g.nodes.items g.columns.items };
 
-    ghost rest = { λ g. rest_in g.nodes.items g.numbers.items };
+    ghost rest = { λ g. mentions_left g.nodes.items g.columns.items };
 
-    ghost from_start = { λ g cell. all_left (number_in g.numbers.items) (areas_of g.nodes.items cell) };
+    ghost from_start = { λ g cell. all_left g.columns.items (areas_of g.nodes.items cell) };
 
-    fn next(&self, cell: u32, place: Place) -> Option<(u32, Place)> {
+    fn next(&self, cell: u32, place: Progress) -> Option<(Interval, Progress)> {
         match self.nodes.get(cell as usize) {
-            Some(node) => next_in_areas(&self.numbers, &node.areas, place),
+            Some(node) => next_in_areas(&self.columns, &node.areas, place),
             None => None,
         }
     }
@@ -68,37 +71,39 @@ fn node_at(alloc: Global, sheet: &Sheet, row: u32, col: u32) -> Result<Option<No
     }
 }
 
-/// Puts a number under a column.
-fn store(row: &mut BTreeMap<u32, u32>, col: u32, number: u32) -> Result<(), Memory>
-    ensures { OnOk result (held row.new ≡ with_number (held row.old) col number) }
-{
-    let _ = row.insert(col, number)?;
-    Ok(())
-}
-
 impl Graph {
-    /// A further node, under the next number.
+    /// A further node, under the next number. It stands below the others of its column.
     fn add(&mut self, node: Node) -> Result<(), Memory>
-        requires row { node.row < length self.old.numbers.items }
-        requires few { length self.old.nodes.items < 2 ^ 32 }
+        requires col { node.col < length self.old.columns.items }
+        requires below { AllByRecursion (λ s. s.row < node.row) (column_at self.old.columns.items node.col) }
+        requires counted { EndsAt (column_at self.old.columns.items node.col) (length self.old.nodes.items) }
+        requires row { node.row < 16000 }
+        requires few { length self.old.nodes.items < 2 ^ 31 }
+        ensures counted { OnOk result (EndsAt (column_at self.new.columns.items node.col) (length self.new.nodes.items)) }
         ensures nodes { OnOk result (self.new.nodes.items ≡ self.old.nodes.items ++ node ∷ []) }
-        ensures numbers { OnOk result (number_in self.new.numbers.items ≡ number_set (number_in self.old.numbers.items) node.row node.col (length self.old.nodes.items)) }
-        ensures len { OnOk result (length self.new.numbers.items ≡ length self.old.numbers.items) }
+        ensures numbers { OnOk result (number_in self.new.columns.items ≡ number_set (number_in self.old.columns.items) node.row node.col (length self.old.nodes.items)) }
+        ensures len { OnOk result (length self.new.columns.items ≡ length self.old.columns.items) }
+        ensures rising { OnOk result (AllByRecursion IsRising self.old.columns.items → AllByRecursion IsRising self.new.columns.items) }
     {
         let number = self.nodes.len() as u32;
-        store(&mut self.numbers[node.row as usize], node.col, number)?;
+        self.columns[node.col as usize].push(node.row, number)?;
         self.nodes.push(node)?;
         Ok(())
     }
 
-    /// Adds the node of a further cell, where it is a formula cell.
+    /// Adds the node of a further cell of the last column, where it is a formula cell.
     fn pass(&mut self, alloc: Global, sheet: &Sheet, row: u32, col: u32) -> Result<(), Memory>
-        requires row { row < length self.old.numbers.items }
-        requires few { length self.old.nodes.items < 2 ^ 32 }
-        ensures len { OnOk result (length self.new.numbers.items ≡ length self.old.numbers.items) }
+        requires col { col < length self.old.columns.items }
+        requires row { row < 16000 }
+        requires few { length self.old.nodes.items < 2 ^ 31 }
+        requires counted { EndsAt (column_at self.old.columns.items col) (length self.old.nodes.items) }
+        requires graph { (before : List ℕ) × AllByRecursion (λ r. r < row) before × IsGraphTo (placed_in sheet.now) col before self.old.nodes.items (number_in self.old.columns.items) }
+        ensures len { OnOk result (length self.new.columns.items ≡ length self.old.columns.items) }
         ensures few { OnOk result (length self.new.nodes.items ≤ length self.old.nodes.items + 1) }
-        ensures graph { OnOk result ((before : List ℕ) → (IsIn col before → ⊥) → IsGraphTo (placed_in sheet.now) row before self.old.nodes.items (number_in self.old.numbers.items) →
-            IsGraphTo (placed_in sheet.now) row (before ++ col ∷ []) self.new.nodes.items (number_in self.new.numbers.items)) }
+        ensures counted { OnOk result (EndsAt (column_at self.new.columns.items col) (length self.new.nodes.items)) }
+        ensures rising { OnOk result (AllByRecursion IsRising self.old.columns.items → AllByRecursion IsRising self.new.columns.items) }
+        ensures graph { OnOk result ((before : List ℕ) → AllByRecursion (λ r. r < row) before → IsGraphTo (placed_in sheet.now) col before self.old.nodes.items (number_in self.old.columns.items) →
+            IsGraphTo (placed_in sheet.now) col (before ++ row ∷ []) self.new.nodes.items (number_in self.new.columns.items)) }
     {
         if let Some(node) = node_at(alloc, sheet, row, col)? {
             self.add(node)?;
@@ -106,46 +111,51 @@ impl Graph {
         Ok(())
     }
 
-    /// Adds the nodes of some cells of a row, which is the last one.
-    fn pass_row(
+    /// Adds the nodes of some cells of a column, which is the last one.
+    fn pass_col(
         &mut self,
         alloc: Global,
         sheet: &Sheet,
-        row: u32,
-        cols: &[u32],
+        col: u32,
+        rows: &[u32],
     ) -> Result<(), Memory>
-        requires filled { HoldsFilled (placed_in sheet.now) row (visible_size (placed_in sheet.now)).cols cols.now }
-        requires width { (visible_size (placed_in sheet.now)).cols ≤ 16000 }
-        requires row { length self.old.numbers.items ≡ row + 1 }
-        requires below { row < 16000 }
-        requires few { length self.old.nodes.items ≤ 16000 * row }
-        requires graph { IsGraphTo (placed_in sheet.now) row [] self.old.nodes.items (number_in self.old.numbers.items) }
-        ensures len { OnOk result (length self.new.numbers.items ≡ row + 1) }
-        ensures few { OnOk result (length self.new.nodes.items ≤ 16000 * (row + 1)) }
-        ensures graph { OnOk result (IsGraphTo (placed_in sheet.now) (row + 1) [] self.new.nodes.items (number_in self.new.numbers.items)) }
+        requires filled { HoldsRows (placed_in sheet.now) col (visible_size (placed_in sheet.now)).rows rows.now }
+        requires height { (visible_size (placed_in sheet.now)).rows ≤ 16000 }
+        requires col { col < length self.old.columns.items }
+        requires below { col < 16000 }
+        requires few { length self.old.nodes.items ≤ 16000 * col }
+        requires rising { AllByRecursion IsRising self.old.columns.items }
+        requires graph { IsGraphTo (placed_in sheet.now) col [] self.old.nodes.items (number_in self.old.columns.items) }
+        ensures len { OnOk result (length self.new.columns.items ≡ length self.old.columns.items) }
+        ensures few { OnOk result (length self.new.nodes.items ≤ 16000 * (col + 1)) }
+        ensures rising { OnOk result (AllByRecursion IsRising self.new.columns.items) }
+        ensures graph { OnOk result (IsGraphTo (placed_in sheet.now) (col + 1) [] self.new.nodes.items (number_in self.new.columns.items)) }
     {
-        for col in cols {
-            self.pass(alloc, sheet, row, *col)?;
+        for row in rows {
+            self.pass(alloc, sheet, *row, col)?;
         }
         Ok(())
     }
 }
 
-/// The graph of the visible formula cells of a sheet.
+/// The graph of the visible formula cells of a sheet. It takes time with the lines, with the filled
+/// cells and the logarithm of their number, and with the formulas; memory with the formulas and the
+/// columns.
 pub fn graph_of(alloc: Global, sheet: &Sheet) -> Result<Graph, Memory>
     ensures few { IfOk result (λ g. length g.nodes.items < 2 ^ 32) }
-    ensures graph { IfOk result (λ g. IsGraph (placed_in sheet.now) g.nodes.items (number_in g.numbers.items)) }
-    ensures within { IfOk result (λ g. IsWithin (length g.nodes.items) (mentions_in g.nodes.items g.numbers.items)) }
+    ensures graph { IfOk result (λ g. IsGraph (placed_in sheet.now) g.nodes.items (number_in g.columns.items)) }
+    // What is listed column by column is what the formulas mention.
+    ensures listed { IfOk result (λ g. (cell : ℕ) → HaveSameMembers (mentions_listed g.nodes.items g.columns.items cell) (mentions_in g.nodes.items g.columns.items cell)) }
+    ensures within { IfOk result (λ g. MentionsWithin (length g.nodes.items) (mentions_listed g.nodes.items g.columns.items)) }
 {
     let seen = sheet.visible();
+    let lists = filled_rows(alloc, sheet)?;
     let mut graph = Graph {
         nodes: Vec::new(alloc),
-        numbers: Vec::new(alloc),
+        columns: empty_columns(alloc, seen.cols)?,
     };
-    for row in 0..seen.rows {
-        let cols = filled_in_row(alloc, sheet, row)?;
-        graph.numbers.push(BTreeMap::new(alloc))?;
-        graph.pass_row(alloc, sheet, row, &cols)?;
+    for col in 0..seen.cols {
+        graph.pass_col(alloc, sheet, col, lists[col as usize].as_slice())?;
     }
     Ok(graph)
 }

@@ -1,3 +1,3 @@
 mod Between
+mod Columns
 mod Orders
-mod Rows

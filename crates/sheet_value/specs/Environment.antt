@@ -1,5 +1,5 @@
 -- What a formula sees: where its references lead, and the values there.
-use Rattle.std.specs.Prelude.{ℕ, suc, ◌-◌, min, ◌<◌, ◌≤◌, ◌&&◌, nat_lt, if◌then◌else◌, List, [], ◌∷◌, length, slice_index, Option, None, Some, option_map}
+use Rattle.std.specs.Prelude.{ℕ, suc, ◌-◌, min, ◌&&◌, nat_lt, if◌then◌else◌, List, [], ◌∷◌, length, map, Option, None, Some, option_map}
 use Rattle.std.specs.List.{range_with_len}
 use Rattle.ss_base.specs.declared.types.Spot.{Spot}
 use Rattle.ss_base.specs.declared.types.Span.{Span}
@@ -37,13 +37,13 @@ size_of_lines (r ∷ rows) (c ∷ cols) = Some (record { rows = length (r ∷ ro
 abbrev pub range_shape : Environment → Span → Option Size
 range_shape E s = size_of_lines (E.rows s) (E.cols s)
 
--- inside the visible part of a range, its rows and columns counted from 0
-abbrev pub IsInRange : Environment → Span → ℕ → ℕ → Type 0
-IsInRange E s row col = (row < length (E.rows s)) × (col < length (E.cols s))
+-- its values row by row
+abbrev pub range_values : Environment → Span → List (List Value)
+range_values E s = map (λ r. map (λ c. E.value r c) (E.cols s)) (E.rows s)
 
--- the value there
-abbrev pub range_value : Environment → Span → ℕ → ℕ → Value
-range_value E s row col = E.value (slice_index (E.rows s) row) (slice_index (E.cols s) col)
+-- both as a table, none where it is lost
+abbrev pub range_table : Environment → Span → Option Table
+range_table E s = option_map (λ size. record { size = size; rows = range_values E s }) (range_shape E s)
 
 -- the value that is seen, none where a reference is lost
 abbrev pub seen_value : Seen → Option Value
@@ -54,14 +54,14 @@ seen_value (seen.Is v) = Some v.now
 -- ---- a table whose lines are all visible
 
 -- the lines from the first to the last of so many
-abbrev pub lines_between : ℕ → ℕ → ℕ → List ℕ
-lines_between first last count = range_with_len first (min (suc last) count - first)
+abbrev pub line_numbers_between : ℕ → ℕ → ℕ → List ℕ
+line_numbers_between first last count = range_with_len first (min (suc last) count - first)
 
 -- a reference outside the table is lost
 abbrev pub table_environment : Table → Environment
 table_environment T = record {
   value = value_at T;
   place = λ s. if nat_lt s.row T.size.rows && nat_lt s.col T.size.cols then Some (s.row, s.col) else None;
-  rows = λ s. lines_between s.top s.bottom T.size.rows;
-  cols = λ s. lines_between s.left s.right T.size.cols;
+  rows = λ s. line_numbers_between s.top s.bottom T.size.rows;
+  cols = λ s. line_numbers_between s.left s.right T.size.cols;
 }

@@ -1,7 +1,6 @@
 -- The values of a visible sheet.
-use Rattle.std.specs.Prelude.{ℕ, ◌≡◌, ◌≤◌, zero, suc, nat_eq, if◌then◌else◌, List, [], ◌∷◌, length, map, replicate, slice_set, slice_index_or, unwrap_or, Option, None, Some}
-use Rattle.std.specs.Ordering.{nat_cmp}
-use Rattle.std.specs.BTreeMap.{BTreeMap, get}
+use Rattle.std.specs.Prelude.{ℕ, ◌≡◌, ◌-◌, ◌<◌, ◌≤◌, List, [], ◌++◌, length, map, replicate, slice_set, slice_index_or, Option, None, Some}
+use Rattle.std.specs.List.{range_with_len, AllByRecursion}
 use Rattle.ss_base.specs.declared.types.Size.{Size}
 use Rattle.sheet_value.specs.declared.value.Value.{Value}
 use Rattle.sheet_value.specs.declared.value.Value.TheVariants as value
@@ -28,28 +27,51 @@ abbrev pub filled : Value → Option Value
 filled value.Empty = None
 filled v = Some v
 
--- ---- how a grid keeps them: a map for each row, in which an empty value has no key
+-- the values of a column of some rows, from the top down
+abbrev pub column_of : List (List Value) → ℕ → List Value
+column_of rows col = map (λ row. slice_index_or row col value.Empty) rows
 
--- what a row's map holds under each column
-abbrev pub held : BTreeMap ℕ Value → ℕ → Option Value
-held row col = get nat_cmp row col
+-- values with empty ones behind them, so many in all
+abbrev pub filled_up : List Value → ℕ → List Value
+filled_up vs count = vs ++ replicate (count - length vs) value.Empty
 
-abbrev pub no_values : ℕ → Option Value
-no_values col = None
+-- ---- a part of a table
 
--- with something else, or nothing, under one column
-abbrev pub with_held : (ℕ → Option Value) → ℕ → Option Value → ℕ → Option Value
-with_held cells col what k = if nat_eq col k then what else cells k
+-- the values from a row and a column on, in a table of a size
+abbrev pub part_of : Table → ℕ → ℕ → Size → Table
+part_of T top left size = record { size = size; rows = map (λ row. map (λ col. value_at T row col) (range_with_len left size.cols)) (range_with_len top size.rows) }
 
--- so many values of a row, from a column on
-abbrev pub values_from : (ℕ → Option Value) → ℕ → ℕ → List Value
-values_from cells first zero = []
-values_from cells first (suc count) = unwrap_or (cells first) value.Empty ∷ values_from cells (suc first) count
+-- some rows of some values each, as many as its size says
+pub record IsPart (T : Table) : Type 0 where
+  pub height : length T.rows ≡ T.size.rows
+  pub widths : AllByRecursion (λ row. length row ≡ T.size.cols) T.rows
+  pub some_rows : 0 < T.size.rows
+  pub some_cols : 0 < T.size.cols
+  pub few_rows : T.size.rows ≤ 16000
+  pub few_cols : T.size.cols ≤ 16000
 
-abbrev pub table_of : Size → List (ℕ → Option Value) → Table
-table_of size rows = record { size = size; rows = map (λ cells. values_from cells 0 size.cols) rows }
+-- a part stands near the top and the left, and has a line at least of each kind
+pub record IsNear (top left : ℕ) (size : Size) : Type 0 where
+  pub near_top : top ≤ 16000
+  pub near_left : left ≤ 16000
+  pub some_rows : 0 < size.rows
+  pub some_cols : 0 < size.cols
+  pub few_rows : size.rows ≤ 16000
+  pub few_cols : size.cols ≤ 16000
 
-pub record IsKept (size : Size) (rows : List (ℕ → Option Value)) : Type 0 where
-  pub height : length rows ≡ size.rows
+-- ---- how a grid keeps them: a list for each column, behind whose end its values are empty
+
+-- a column's value at a row
+abbrev pub kept_at : List Value → ℕ → Value
+kept_at column row = slice_index_or column row value.Empty
+
+abbrev pub row_of : List (List Value) → ℕ → List Value
+row_of columns row = map (λ column. kept_at column row) columns
+
+abbrev pub table_of : Size → List (List Value) → Table
+table_of size columns = record { size = size; rows = map (λ row. row_of columns row) (range_with_len 0 size.rows) }
+
+pub record IsKept (size : Size) (columns : List (List Value)) : Type 0 where
+  pub width : length columns ≡ size.cols
   pub few_rows : size.rows ≤ 16000
   pub few_cols : size.cols ≤ 16000

@@ -3,6 +3,7 @@
 #![tactic(auto)]
 
 mod batch;
+mod column;
 mod convert;
 mod grid;
 mod law;
@@ -10,6 +11,7 @@ mod look;
 mod ordering;
 mod plain;
 mod value;
+mod window;
 
 pub use batch::{Batch, Change};
 pub use convert::{text_value, to_num, to_text};
@@ -18,6 +20,7 @@ pub use law::order_is_total;
 pub use look::{Look, Seen};
 pub use ordering::{compare, order};
 pub use value::Value;
+pub use window::Window;
 
 #[cfg(test)]
 mod tests;

@@ -1,8 +1,9 @@
-ghost use Rattle.std.specs.Prelude.{◌≡◌, ◌≤◌, Some, IfSome};
-ghost use Rattle.sheet_value.specs.Environment.{Environment, cell_value, range_shape, IsInRange, range_value, seen_value};
+ghost use Rattle.std.specs.Prelude.{◌≡◌};
+ghost use Rattle.sheet_value.specs.Environment.{Environment, cell_value, range_table, seen_value};
 
 use crate::value::Value;
-use ss_base::{Size, Span, Spot};
+use crate::window::Window;
+use ss_base::{Span, Spot};
 
 /// What stands where a formula looks.
 #[derive(Clone, Copy, Debug)]
@@ -22,14 +23,7 @@ pub trait Look {
     fn cell(&self, spot: &Spot) -> Seen<'_>
         ensures { seen_value result ≡ cell_value (environment self.now) spot.now };
 
-    /// How many rows and columns of a range are visible, and `None` exactly for a lost range. There
-    /// are at most 16,000 of each.
-    fn shape(&self, span: &Span) -> Option<Size>
-        ensures shape { result ≡ range_shape (environment self.now) span.now }
-        ensures few { IfSome result (λ size. (size.rows ≤ 16000) × (size.cols ≤ 16000)) };
-
-    /// The value at a visible row and column inside a range, both counted from 0.
-    fn part(&self, span: &Span, row: u32, col: u32) -> Seen<'_>
-        requires { IsInRange (environment self.now) span.now row col }
-        ensures { seen_value result ≡ Some (range_value (environment self.now) span.now row col) };
+    /// The visible part of a range, and `None` exactly for a lost range.
+    fn range(&self, span: &Span) -> Option<Window<'_>>
+        ensures { result ≡ range_table (environment self.now) span.now };
 }

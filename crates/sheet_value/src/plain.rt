@@ -6,6 +6,7 @@ ghost use Rattle.sheet_value.specs.Environment.{seen_value, table_environment};
 use crate::grid::Grid;
 use crate::look::{Look, Seen};
 use crate::value::Value;
+use crate::window::Window;
 use ss_base::{Size, Span, Spot};
 
 /// A grid is looked at as a sheet whose lines are all visible: a reference outside its size is lost,
@@ -21,21 +22,14 @@ impl Look for Grid {
         Seen::Lost
     }
 
-    fn shape(&self, span: &Span) -> Option<Size> {
+    fn range(&self, span: &Span) -> Option<Window<'_>> {
         let size = self.size();
         let rows = count_between(span.top, span.bottom, size.rows);
         let cols = count_between(span.left, span.right, size.cols);
         if rows == 0 || cols == 0 {
             return None;
         }
-        Some(Size { rows, cols })
-    }
-
-    fn part(&self, span: &Span, row: u32, col: u32) -> Seen<'_> {
-        let size = self.size();
-        prove!(row < size.rows);
-        prove!(col < size.cols);
-        seen(self.at(span.top + row, span.left + col))
+        Some(Window::new(self, span.top, span.left, Size { rows, cols }))
     }
 }
 

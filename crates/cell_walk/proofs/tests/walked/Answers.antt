@@ -1,10 +1,10 @@
 use Rattle.std.proofs.Common.{◌≡◌, ℕ, ◌+◌, ◌<◌, Bool, true, false, cond, [], ◌∷◌, refl, arith, inl, inr}
 use Rattle.std.specs.Prelude.{nat_lt}
 use Rattle.std.proofs.lemmas.Bool.Decides.{nat_tests}
-use Rattle.cell_walk.specs.Walks.{IsIn, IsWithin}
+use Rattle.cell_walk.specs.Walks.{IsIn, MentionsWithin}
 use Rattle.cell_walk.proofs.tests.walked.Goals as goal
 
-within_chain : (count : ℕ) (ring : Bool) → 0 < count → IsWithin count (λ cell. cond (nat_lt (cell + 1) count) ((cell + 1) ∷ []) (cond ring (0 ∷ []) []))
+within_chain : (count : ℕ) (ring : Bool) → 0 < count → MentionsWithin count (λ cell. cond (nat_lt (cell + 1) count) ((cell + 1) ∷ []) (cond ring (0 ∷ []) []))
 within_chain count ring some c d below i = by_next (nat_lt (c + 1) count) refl i
   where
     by_ring : (r : Bool) → IsIn d (cond r (0 ∷ []) []) → d < count

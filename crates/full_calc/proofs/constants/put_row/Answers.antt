@@ -5,7 +5,7 @@ use Rattle.sheet_value.specs.Tables.{Table, value_at}
 use Rattle.sheet_grid.specs.Values.{placed_in}
 use Rattle.sheet_graph.specs.Graphs.{content_seen}
 use Rattle.sheet_graph.proofs.Building.{at_in}
-use Rattle.full_calc.specs.Shown.{IsShaped}
+use Rattle.full_calc.specs.Shown.{HasItsSize}
 use Rattle.full_calc.specs.Evaluated.{constant_of}
 use Rattle.full_calc.proofs.Tables.{shaped_put, value_other}
 use Rattle.full_calc.proofs.RowConstants.{none_yet, row_more, row_all}
@@ -42,7 +42,7 @@ loop-col-preserved c =
     let after = c.in_ok-put_constant.ensures in
     record {
       size = ap (λ (T : Table). T.size) after ∙ c.loop-col.invariant.size;
-      shape = subst (λ (T : Table). IsShaped T) (sym after) (shaped_put c.loop-col.grid c.args.row col v c.loop-col.invariant.shape h k);
+      shape = subst (λ (T : Table). HasItsSize T) (sym after) (shaped_put c.loop-col.grid c.args.row col v c.loop-col.invariant.shape h k);
       here = row_more P c.args.row c.loop-col.grid c.put_constant.new.grid c.args.cols.now c.loop-col.col-index c.loop-col.invariant.shape h k c.loop-col-test.true c.loop-col.invariant.here after;
       others = λ r d n. ap (λ (T : Table). value_at T r d) after ∙ (value_other c.loop-col.grid c.args.row col v c.loop-col.invariant.shape h k r d (inl n) ∙ c.loop-col.invariant.others r d n);
     }

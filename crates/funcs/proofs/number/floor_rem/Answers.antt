@@ -1,4 +1,4 @@
-use Rattle.std.proofs.Common.{◌≡◌, ℤ, pos, ◌-ℤ◌, ◌*ℤ◌, neg_ℤ, false, arith, ◌∙◌}
+use Rattle.std.proofs.Common.{◌≡◌, pos, ◌-ℤ◌, ◌*ℤ◌, neg_ℤ, false, arith, ◌∙◌}
 use lib.Signed.{lt_z}
 use mir.Syntax.{w64, w128}
 use mir.Val.{to_z, of_z}

@@ -6,7 +6,7 @@ use Rattle.funcs.specs.Tallies.{nothing_tallied, with_numbers}
 use Rattle.funcs.proofs.table.chosen_total.Given as goal
 
 abbrev pub invariant-loop-i : goal.invariant-loop-i
-invariant-loop-i g l = record {
+invariant-loop-i l = record {
   numbers : with_numbers nothing_tallied (sheet_numbers (chosen (owned l.x) (items l.area) (items l.sums))) ≡ with_numbers l.found (sheet_numbers (chosen (owned l.x) (drop l.i (items l.area)) (drop l.i (items l.sums))));
   few : l.found.count ≤ l.i;
 }

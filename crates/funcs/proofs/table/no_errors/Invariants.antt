@@ -7,4 +7,4 @@ use Rattle.funcs.specs.Tables.{no_errors}
 use Rattle.funcs.proofs.table.no_errors.Given as goal
 
 abbrev pub invariant-loop-i : goal.invariant-loop-i
-invariant-loop-i g l = no_errors l.area ≡ appended (take l.i (items l.area)) (all_of (map (λ v. no_error v) (drop l.i (items l.area))))
+invariant-loop-i l = no_errors l.area ≡ appended (take l.i (items l.area)) (all_of (map (λ v. no_error v) (drop l.i (items l.area))))

@@ -1,15 +1,15 @@
-use Rattle.std.proofs.Common.{◌+◌, ◌∙◌, sym}
+use Rattle.std.proofs.Common.{◌≡◌, ◌+◌, ℕ, suc, ap, sym, ◌∙◌, arith}
+use Rattle.std.specs.Prelude.{option_map, Option, Some}
 use Rattle.funcs.specs.Refs.{owned}
 use Rattle.funcs.specs.Areas.{items, same}
-use Rattle.funcs.proofs.Walks.{position-here, position-later}
+use Rattle.funcs.proofs.Filled.{next_place}
 use Rattle.funcs.proofs.table.position.Goals as goal
 
-pub returns-then-is_same-clause-value : goal.returns-then-is_same-clause-value
-returns-then-is_same-clause-value g c =
-    sym (c.loop-i.invariant
-    ∙ position-here (items c.args.area.now) c.loop-i.i (owned c.item.result) c.item.ensures (λ v. same v (owned c.args.x)) (c.loop-i.i + 1) (sym c.if-is_same.ensures))
+pub returns-in-Some-clause-value : goal.returns-in-Some-clause-value
+returns-in-Some-clause-value c =
+    ap (λ (n : ℕ). Some n) (let z : c.in-Some.i + 1 ≡ suc c.in-Some.i = omega arith in z)
+    ∙ (ap (λ (o : Option ℕ). option_map suc o) c.in-Some.ensures.place ∙ sym (next_place (λ v. same v (owned c.args.x)) 0 (items c.args.area.now)))
 
-pub loop-i-preserved : goal.loop-i-preserved
-loop-i-preserved g c =
-    c.loop-i.invariant
-    ∙ position-later (items c.args.area.now) c.loop-i.i (owned c.item.result) c.item.ensures (λ v. same v (owned c.args.x)) (c.loop-i.i + 1) (sym c.if-is_same.ensures)
+pub returns-in-None-clause-value : goal.returns-in-None-clause-value
+returns-in-None-clause-value c =
+    ap (λ (o : Option ℕ). option_map suc o) c.in-None.ensures.place ∙ sym (next_place (λ v. same v (owned c.args.x)) 0 (items c.args.area.now))

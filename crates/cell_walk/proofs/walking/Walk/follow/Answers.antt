@@ -19,6 +19,7 @@ loop-top-preserved g c = record {
   len = c.in_ok-turn.ensures.len ∙ c.loop-top.invariant.len;
   holds = λ first h. c.in_ok-turn.ensures.holds first
       (popped (g.G.Mentions.mentions c.args.graph.now) (g.G.Mentions.rest c.args.graph.now) first c.loop-top.self.colours.items c.loop-top.self.order.items c.loop-top.self.stack.items c.pop.new.self.items c.in-Some.top c.in-Some.ensures.items (c.loop-top.invariant.holds first h));
+  skips = c.in_ok-turn.ensures.skips;
   seen = λ x n. c.in_ok-turn.ensures.seen x (c.loop-top.invariant.seen x n);
 }
 
