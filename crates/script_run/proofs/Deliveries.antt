@@ -13,7 +13,7 @@ use Rattle.jup_client.specs.declared.Down.TheVariants as message
 use Rattle.jup_client.specs.Clients.{IsTaken}
 use Rattle.jup_client.proofs.Longer.{may_come}
 use Rattle.script_run.specs.declared.seat.Seat.{Seat}
-use Rattle.script_run.specs.Deliveries.{MaySubmit, MayTake}
+use Rattle.script_run.specs.Deliveries.{MaySubmit, MayPull}
 use Rattle.script_run.proofs.Lists.{drop-at}
 use Rattle.script_run.proofs.Seats.{of_site}
 
@@ -36,7 +36,7 @@ module _ (s : ServerState) (site : ℕ) (seat : Seat) (may : MaySubmit s site se
       (subst (λ n. n ≤ s.sites) (sym may.stands.number) may.to)
       (omega (arith, may.stands.represents.issued, may.holds.few)))
 
-module _ (c : ClientState) (site : ℕ) (H : List Entry) (es : List Effect) (may : MayTake c site H es) where
+module _ (c : ClientState) (site : ℕ) (H : List Entry) (es : List Effect) (may : MayPull c site H es) where
   pub taken_small : c.taken < 8000
   taken_small = let few = valid_few c.size may.sites H may.valid in omega (arith, few, may.more, may.few)
 

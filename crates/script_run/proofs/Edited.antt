@@ -27,13 +27,13 @@ use Rattle.sheet_text.specs.Texts.{sheet_text, head_text, server_head_text}
 use Rattle.sheet_text.proofs.Seen.{shown-placed}
 use Rattle.script_run.specs.declared.seat.Seat.{Seat}
 use Rattle.script_run.specs.declared.room.Room.{Room}
-use Rattle.script_run.specs.World.{World, new_seat, seat_at, put_seat, view_at, pending_at, keys_of, unless_spent, decided, after_decided}
+use Rattle.script_run.specs.World.{World, new_seat, seat_at, put_seat, site_view, pending_at, keys_of, unless_spent, decided, after_decided}
 use Rattle.script_run.specs.Transcript.{show_text, server_text}
 use Rattle.script_run.specs.Rooms.{ClientStands}
 use Rattle.script_run.specs.Runs.{EachOf, SeatStands, IsRun}
 use Rattle.script_run.specs.Issues.{Decides, entry_made, Issues}
 use Rattle.script_run.proofs.Lists.{same_or_not, some_same, get_more-before, get_more-last, index_more-before, index_more-last}
-use Rattle.script_run.proofs.Outcomes.{on_ok}
+use Rattle.script_run.proofs.Outcomes.{on_ok, both_ways}
 use Rattle.script_run.proofs.Standing.{seat_is, holds, stands, valid, run_with, run_same}
 
 -- an edit is accepted where it denotes an intent and an operation is left
@@ -66,6 +66,10 @@ pending_length size H site k (g ∷ G) = by_test (nat_le (suc (length G)) (lengt
         below : (m n : ℕ) → nat_le (suc n) m ≡ false → m ≤ n
         below m n e = grind (arith, nat_tests)
 
+-- an edit leaves the name of its site
+pub issued_name : (site : Site) (e : Edit) (s t : Seat) (c d : ClientState) (x : Result (Unit {0}) EditErr) → OnOk x (Issues site e s t c d) → OnErr x ((t ≡ s) × (d ≡ c)) → t.name ≡ s.name
+issued_name site e s t c d x ok err = both_ways x ok err (λ made. ap (λ (z : Seat). z.name) made.seat) (λ same. ap (λ (z : Seat). z.name) same.0)
+
 module _ (w : World) (es : List Effect) (r : Room) (run : IsRun w es r) (p : ℕ) (h : p < length w.seats) (s : Seat) (at : s ≡ slice_index_or w.seats p s) (c : ClientState) (here : c ≡ slice_index_or r.clients p c) where
   abbrev seat : seat_at w p ≡ s
   seat = seat_is w es r run p h s at
@@ -77,13 +81,13 @@ module _ (w : World) (es : List Effect) (r : Room) (run : IsRun w es r) (p : ℕ
   kept = holds w es r run p h s at
 
   -- the client's view is what the site sees
-  same_view : view c.size w.history c.site c.taken s.made ≡ view_at w p
+  same_view : view c.size w.history c.site c.taken s.made ≡ site_view w p
   same_view = λ i. let t = sym seat i in view (client.sized i) w.history (client.number i) ((client.taken ∙ ap (λ (x : Seat). x.taken) (sym seat)) i) t.made
 
-  sees : c.sheet ≡ placed (view_at w p)
+  sees : c.sheet ≡ placed (site_view w p)
   sees = client.represents.sheet ∙ ap placed same_view
 
-  formed : IsWellFormed (view_at w p)
+  formed : IsWellFormed (site_view w p)
   formed =
       let positive : 0 < c.site = omega (arith, client.number) in
       subst (λ (X : IdSheet). IsWellFormed X) same_view
@@ -91,7 +95,7 @@ module _ (w : World) (es : List Effect) (r : Room) (run : IsRun w es r) (p : ℕ
 
   -- what an edit comes to at the client it comes to in the state of the run
   pub decided_here : (e : Edit) (x : Result Intent EditErr) → Decides c e x → decided w p e ≡ x
-  decided_here e x d = ap (λ n. unless_spent n (intended (view_at w p) e (keys_of (view_at w p) e))) (ap (λ (t : Seat). operations t.made) seat ∙ sym client.represents.issued) ∙ d (view_at w p) formed (sym sees)
+  decided_here e x d = ap (λ n. unless_spent n (intended (site_view w p) e (keys_of (site_view w p) e))) (ap (λ (t : Seat). operations t.made) seat ∙ sym client.represents.issued) ∙ d (site_view w p) formed (sym sees)
 
   pub edited_run : (site : Site) → site.0 ≡ suc p → (e : Edit) (t : Seat) (d : ClientState) (x : Result (Unit {0}) EditErr) → OnOk x (Issues site e s t c d) → OnOk x (ClientRepresents d w.history t.made) → OnErr x ((t ≡ s) × (d ≡ c)) →
       IsRun (put_seat w p t) es (record r { clients = slice_set r.clients p d })
@@ -101,7 +105,7 @@ module _ (w : World) (es : List Effect) (r : Room) (run : IsRun w es r) (p : ℕ
   edited_run site number e t d (Ok y) ok rep err = run_with w es r run p h t d after_edit after_client
     where
       few : c.issued < 1000
-      few = (accepted c.issued (intended (view_at w p) e (keys_of (view_at w p) e)) ok.intent (ok.decided (view_at w p) formed (sym sees))).1
+      few = (accepted c.issued (intended (site_view w p) e (keys_of (site_view w p) e)) ok.intent (ok.decided (site_view w p) formed (sym sees))).1
 
       after_edit : SeatStands w.history (suc p) t
       after_edit = subst (λ (z : Seat). SeatStands w.history (suc p) z) (sym ok.seat) (record {
@@ -131,7 +135,7 @@ module _ (w : World) (es : List Effect) (r : Room) (run : IsRun w es r) (p : ℕ
   -- what is shown of the client is what the site sees
   pub shown_here : sheet_text (head_text s.name s.taken (length c.pending) (shown_placed c.sheet)) (shown_placed c.sheet) ≡ show_text w p
   shown_here =
-      let seen : shown_placed c.sheet ≡ shown (view_at w p) = ap shown_placed sees ∙ sym (shown-placed (view_at w p)) in
+      let seen : shown_placed c.sheet ≡ shown (site_view w p) = ap shown_placed sees ∙ sym (shown-placed (site_view w p)) in
       let waiting : length c.pending ≡ pending_at w p =
       ap length client.represents.pending
       ∙ (pending_length c.size w.history c.site c.taken (reverse s.made)

@@ -27,7 +27,7 @@ use Rattle.sheet_ops.proofs.Published.{published_leads}
 use Rattle.sheet_ops.proofs.Views.{IsFresh, known_after, sheets_fresh}
 use Rattle.sheet_grid.specs.Values.{placed_in}
 use Rattle.jup_client.proofs.Stays.{size_placed}
-use Rattle.script_run.specs.declared.published.Published.{Published}
+use Rattle.script_run.specs.declared.published.PublishedSheet.{PublishedSheet}
 use Rattle.script_run.specs.Runs.{PublishedIs, PublishedStands}
 
 -- the sheet after so many entries is that of so many first entries
@@ -95,7 +95,7 @@ module _ (size : Size) (sites : ℕ) (H : List Entry) (valid : IsValidHistory si
         sym (ap placed lead.same) ∙ steps (sheet_at size H k) (ids_at H k) formed (each_new_for (sheet_at size H k) (ids_at H k) formed next_new (effect_at size H k) lead.as_many) is
 
   -- one entry more is published
-  pub published_next : (p p' : Published) → PublishedStands size H p → p.length < length H → p'.length ≡ p.length + 1 → StepsTo (placed_in p.sheet) (effect_at size H p.length) (placed_in p'.sheet) → p'.is_current ≡ false → PublishedStands size H p'
+  pub published_next : (p p' : PublishedSheet) → PublishedStands size H p → p.length < length H → p'.length ≡ p.length + 1 → StepsTo (placed_in p.sheet) (effect_at size H p.length) (placed_in p'.sheet) → p'.is_current ≡ false → PublishedStands size H p'
   published_next p p' old more count steps none = record {
     within = omega (arith, more, count);
     is = record {
@@ -105,14 +105,14 @@ module _ (size : Size) (sites : ℕ) (H : List Entry) (valid : IsValidHistory si
   }
 
 -- what is published stays so where the history goes on
-pub published_later : (size : Size) (H more : List Entry) (p : Published) → PublishedStands size H p → PublishedStands size (H ++ more) p
+pub published_later : (size : Size) (H more : List Entry) (p : PublishedSheet) → PublishedStands size H p → PublishedStands size (H ++ more) p
 published_later size H more p old = record {
   within = omega (arith, old.within, length-append H more);
   is = subst (λ (X : IdSheet). PublishedIs X p) (sym (sheet_before size H more p.length old.within)) old.is;
 }
 
 -- before there is an entry
-pub published_first : (size : Size) (p : Published) → p.length ≡ 0 → PublishedIs (opened size) p → PublishedStands size [] p
+pub published_first : (size : Size) (p : PublishedSheet) → p.length ≡ 0 → PublishedIs (opened size) p → PublishedStands size [] p
 published_first size p none is = record {
   within = omega (arith, none);
   is = subst (λ n. PublishedIs (sheet_at size [] n) p) (sym none) is;

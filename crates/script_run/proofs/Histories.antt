@@ -9,16 +9,16 @@ use Rattle.sheet_ops.specs.declared.operation.Effect.TheVariants as effect
 use Rattle.sheet_ops.specs.Published.{effect_at}
 use Rattle.sheet_text.specs.Operations.{IntentWithin, EffectWithin}
 use Rattle.sheet_text.proofs.Within.{entries_within, effects_within}
-use Rattle.script_run.specs.declared.published.Published.{Published}
+use Rattle.script_run.specs.declared.published.PublishedSheet.{PublishedSheet}
 use Rattle.script_run.specs.declared.room.Room.{Room}
 use Rattle.script_run.specs.World.{World}
 use Rattle.script_run.specs.Transcript.{effects}
 use Rattle.script_run.specs.Runs.{RunStands}
 use Rattle.script_run.proofs.Publishes.{valid, few_sites}
 
-module _ (w : World) (es : List Effect) (r : Room) (p : Published) (all : RunStands w es r p) where
+module _ (w : World) (es : List Effect) (r : Room) (p : PublishedSheet) (places : List (List ℕ × ℕ)) (all : RunStands w es r p places) where
   pub entries_short : All (λ e. IntentWithin 16000 e.intent) w.history
-  entries_short = entries_within w.size r.server.sites all.run.rows all.run.cols (few_sites w es r p all) w.history (valid w es r p all)
+  entries_short = entries_within w.size r.server.sites all.run.rows all.run.cols (few_sites w es r p places all) w.history (valid w es r p places all)
 
   effect_here : (k : ℕ) (d : Effect) → k < length es → get_or es k d ≡ effect_at w.size w.history k
   effect_here k d h = get_or_from_slice_get es k (effect_at w.size w.history k) d (all.run.effects_of.each k (omega (arith, h, all.run.effects_of.as_many)))
@@ -26,7 +26,7 @@ module _ (w : World) (es : List Effect) (r : Room) (p : Published) (all : RunSta
   pub effects_short : All (EffectWithin 16000) es
   effects_short k d h =
       subst (λ (e : Effect). EffectWithin 16000 e) (sym (effect_here k d h))
-      (effects_within w.size r.server.sites all.run.rows all.run.cols (few_sites w es r p all) w.history (valid w es r p all) k (omega (arith, h, all.run.effects_of.as_many)))
+      (effects_within w.size r.server.sites all.run.rows all.run.cols (few_sites w es r p places all) w.history (valid w es r p places all) k (omega (arith, h, all.run.effects_of.as_many)))
 
   pub effects_all : es ≡ effects w.size w.history
   effects_all =

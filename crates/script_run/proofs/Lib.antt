@@ -1,5 +1,6 @@
 pub mod Lists
 pub mod Seats
+pub mod Named
 pub mod Outcomes
 pub mod Deliveries
 pub mod Effects
@@ -13,3 +14,4 @@ pub mod Histories
 pub mod NeverBack
 pub mod Worlds
 pub mod Turns
+pub mod Looked

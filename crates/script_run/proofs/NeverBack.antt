@@ -7,7 +7,7 @@ use Rattle.sheet_ops.specs.declared.operation.Intent.{Intent}
 use Rattle.script_read.specs.declared.command.Command.{Command}
 use Rattle.script_read.specs.declared.command.Command.TheVariants as command
 use Rattle.script_run.specs.declared.seat.Seat.{Seat}
-use Rattle.script_run.specs.World.{World, no_world, new_seat, seat_at, put_seat, place_of, at_most, pushed, pulled, recalculated, reading, at_each, decided, after_decided, after, after_all}
+use Rattle.script_run.specs.World.{World, no_world, new_seat, seat_at, put_seat, seat_index, at_most, pushed, pulled, recalculated, reading, at_each, decided, after_decided, after_command, after_all}
 use Rattle.script_run.specs.Publishing.{IsPublishing, NeverGoesBack}
 use Rattle.script_run.proofs.Worlds.{at_most-le}
 
@@ -57,18 +57,18 @@ each_publishing : (does : World → ℕ → World) → ((v : World) (p : ℕ) �
 each_publishing does keeps first zero w h = h
 each_publishing does keeps first (suc count) w h = each_publishing does keeps (suc first) count (does w first) (keeps w first h)
 
-after_publishing : (w : World) → IsPublishing w → (c : Command) → IsPublishing (after w c)
+after_publishing : (w : World) → IsPublishing w → (c : Command) → IsPublishing (after_command w c)
 after_publishing w h command.Note = h
 after_publishing w h (command.Sheet size) = record { within = h.within; seen = h.seen }
 after_publishing w h (command.Site name) = record { within = h.within; seen = each_more w.seats name w.published h.seen }
-after_publishing w h (command.Edit name e) = decided_publishing w h (place_of w name) (decided w (place_of w name) e)
-after_publishing w h (command.Push name n) = pushed_publishing w h (place_of w name) n
-after_publishing w h (command.Pull name n) = pulled_publishing w h (place_of w name) n
+after_publishing w h (command.Edit name e) = decided_publishing w h (seat_index w name) (decided w (seat_index w name) e)
+after_publishing w h (command.Push name n) = pushed_publishing w h (seat_index w name) n
+after_publishing w h (command.Pull name n) = pulled_publishing w h (seat_index w name) n
 after_publishing w h command.PushAll = each_publishing (λ v p. pushed v p None) (λ v p k. pushed_publishing v k p None) 0 (length w.seats) w h
 after_publishing w h command.PullAll = each_publishing (λ v p. pulled v p None) (λ v p k. pulled_publishing v k p None) 0 (length w.seats) w h
-after_publishing w h (command.Sync name) = recalculated_publishing (pushed w (place_of w name) None) (pushed_publishing w h (place_of w name) None) None
+after_publishing w h (command.Sync name) = recalculated_publishing (pushed w (seat_index w name) None) (pushed_publishing w h (seat_index w name) None) None
 after_publishing w h (command.Recalc n) = recalculated_publishing w h n
-after_publishing w h (command.Read name range) = reading_publishing w h (place_of w name)
+after_publishing w h (command.Read name range) = reading_publishing w h (seat_index w name)
 after_publishing w h command.Values = h
 after_publishing w h command.History = h
 after_publishing w h command.Wire = h
@@ -78,7 +78,7 @@ after_publishing w h command.End = h
 
 all_publishing : (cs : List (ℕ × Command)) (w : World) → IsPublishing w → IsPublishing (after_all w cs)
 all_publishing [] w h = h
-all_publishing (c ∷ cs) w h = all_publishing cs (after w c.1) (after_publishing w h c.1)
+all_publishing (c ∷ cs) w h = all_publishing cs (after_command w c.1) (after_publishing w h c.1)
 
 pub never_goes_back : (cs : List (ℕ × Command)) → NeverGoesBack cs
 never_goes_back cs done rest is = all_publishing done no_world (record { within = omega arith; seen = λ q. omega arith })

@@ -13,7 +13,7 @@ use Rattle.sheet_ops.specs.Represents.{ClientState, sheet_at}
 use Rattle.sheet_ops.specs.Published.{effect_at}
 use Rattle.sheet_grid.specs.Values.{placed_in}
 use Rattle.full_calc.specs.Values.{value_table}
-use Rattle.script_run.specs.declared.published.Published.{Published}
+use Rattle.script_run.specs.declared.published.PublishedSheet.{PublishedSheet}
 use Rattle.script_run.specs.declared.room.Room.{Room}
 use Rattle.script_run.specs.declared.seat.Seat.{Seat}
 use Rattle.script_run.specs.World.{World, seat_at, put_seat, recalculated, reading}
@@ -35,7 +35,7 @@ run_published w es r run n = record {
   room = record { sized = run.room.sized; sites = run.room.sites; server = run.room.server; as_many = run.room.as_many; clients = run.room.clients };
 }
 
-module _ (w : World) (es : List Effect) (r : Room) (p : Published) (all : RunStands w es r p) where
+module _ (w : World) (es : List Effect) (r : Room) (p : PublishedSheet) (places : List (List ℕ × ℕ)) (all : RunStands w es r p places) where
   pub valid : IsValidHistory w.size r.server.sites w.history
   valid = subst (λ (z : Size). IsValidHistory z r.server.sites w.history) all.run.room.sized all.run.room.server.valid
 
@@ -58,35 +58,36 @@ module _ (w : World) (es : List Effect) (r : Room) (p : Published) (all : RunSta
     pub may_grow : HasRoom (placed_size (placed_in p.sheet)) e
     may_grow = subst (λ (x : Effect). HasRoom (placed_size (placed_in p.sheet)) x) (sym effect_is) (next_room w.size r.server.sites w.history valid p.length more (placed_in p.sheet) all.published.is.sheet all.run.rows all.run.cols few_sites)
 
-    pub advanced : (q : Published) → q.length ≡ p.length + 1 → StepsTo (placed_in p.sheet) e (placed_in q.sheet) → q.is_current ≡ false → RunStands (record w { published = q.length }) es r q
+    pub advanced : (q : PublishedSheet) → q.length ≡ p.length + 1 → StepsTo (placed_in p.sheet) e (placed_in q.sheet) → q.is_current ≡ false → RunStands (record w { published = q.length }) es r q places
     advanced q count steps none = record {
       run = run_published w es r all.run q.length;
       published =
           published_next w.size r.server.sites w.history valid p q all.published more count (subst (λ (x : Effect). StepsTo (placed_in p.sheet) x (placed_in q.sheet)) effect_is steps) none;
+      names = all.names;
     }
 
     pub short_here : p.length < 8000
     short_here = let k = short w es r all.run in omega (arith, more, k)
 
     -- or nothing changed
-    pub advance_run : {T E : Type 0} (x : Result T E) (q : Published) → OnOk x (q.length ≡ p.length + 1) → OnOk x (StepsTo (placed_in p.sheet) e (placed_in q.sheet)) → OnOk x (q.is_current ≡ false) → OnErr x (q ≡ p) →
-        RunStands (record w { published = q.length }) es r q
+    pub advance_run : {T E : Type 0} (x : Result T E) (q : PublishedSheet) → OnOk x (q.length ≡ p.length + 1) → OnOk x (StepsTo (placed_in p.sheet) e (placed_in q.sheet)) → OnOk x (q.is_current ≡ false) → OnErr x (q ≡ p) →
+        RunStands (record w { published = q.length }) es r q places
     advance_run (Ok y) q count steps none same = advanced q count steps none
     advance_run (Err y) q count steps none same =
-        subst (λ (t : Published). RunStands (record w { published = t.length }) es r t) (sym same) (record { run = run_published w es r all.run p.length; published = all.published })
+        subst (λ (t : PublishedSheet). RunStands (record w { published = t.length }) es r t places) (sym same) (record { run = run_published w es r all.run p.length; published = all.published; names = all.names })
 
   -- ---- what is published was evaluated
-  pub evaluated_stands : (q : Published) → q.length ≡ p.length → PublishedIs (sheet_at w.size w.history p.length) q → PublishedStands w.size w.history q
+  pub evaluated_stands : (q : PublishedSheet) → q.length ≡ p.length → PublishedIs (sheet_at w.size w.history p.length) q → PublishedStands w.size w.history q
   evaluated_stands q same is = record {
     within = let k = all.published.within in omega (arith, same, k);
     is = subst (λ n. PublishedIs (sheet_at w.size w.history n) q) (sym same) is;
   }
 
-  pub evaluated_run : (q : Published) → q.length ≡ p.length → PublishedIs (sheet_at w.size w.history p.length) q → RunStands (record w { published = q.length }) es r q
-  evaluated_run q same is = record { run = run_published w es r all.run q.length; published = evaluated_stands q same is }
+  pub evaluated_run : (q : PublishedSheet) → q.length ≡ p.length → PublishedIs (sheet_at w.size w.history p.length) q → RunStands (record w { published = q.length }) es r q places
+  evaluated_run q same is = record { run = run_published w es r all.run q.length; published = evaluated_stands q same is; names = all.names }
 
   module _ (at : p.length ≡ w.published) where
-    values_are : value_table (sheet_at w.size w.history p.length) ≡ published_values w
+    pub values_are : value_table (sheet_at w.size w.history p.length) ≡ published_values w
     unfolding published_values
     values_are = ap value_table (ap (sheet_at w.size w.history) at ∙ sheet_of_front w.size w.history w.published (let k = all.published.within in omega (arith, at, k)))
 

@@ -19,7 +19,7 @@ use Rattle.script_run.specs.declared.room.Room.{Room}
 use Rattle.script_run.specs.World.{World, new_seat, seat_at, put_seat, pushed}
 use Rattle.script_run.specs.Rooms.{ClientStands}
 use Rattle.script_run.specs.Runs.{SeatStands, AreEffectsOf, IsRun}
-use Rattle.script_run.specs.Deliveries.{MaySubmit, MayTake}
+use Rattle.script_run.specs.Deliveries.{MaySubmit, MayPull}
 use Rattle.script_run.proofs.Lists.{same_or_not, some_same, get_set-same, get_set-other, drop-at, take-at, there}
 use Rattle.script_run.proofs.Effects.{effects_more}
 use Rattle.script_run.proofs.Seats.{of_site, mine_first}
@@ -202,8 +202,8 @@ module _ (w : World) (es : List Effect) (r : Room) (run : IsRun w es r) where
         pub valid : IsValidHistory c.size r.server.sites w.history
         valid = subst (λ (z : Size). IsValidHistory z r.server.sites w.history) (run.room.sized ∙ sym stands.sized) run.room.server.valid
 
-        pub may_take : (site : ℕ) → site ≡ suc p → s.taken < length w.history → MayTake c site w.history es
-        may_take site e more = subst (λ n. MayTake c n w.history es) (sym e) (record {
+        pub may_take : (site : ℕ) → site ≡ suc p → s.taken < length w.history → MayPull c site w.history es
+        may_take site e more = subst (λ n. MayPull c n w.history es) (sym e) (record {
           sites = r.server.sites;
           made = s.made;
           valid = valid;

@@ -10,12 +10,12 @@ use Rattle.script_read.specs.declared.command.Command.{Command}
 use Rattle.script_read.specs.declared.command.Command.TheVariants as command
 use Rattle.script_read.specs.declared.script.ScriptKind.{ScriptKind}
 use Rattle.script_read.specs.declared.script.ScriptKind.TheVariants as kind
-use Rattle.script_read.specs.Commands.{IsWithin}
+use Rattle.script_read.specs.Commands.{CommandWithin}
 use Rattle.script_read.specs.Script.{Declared, LineTurn, goes, stops, ended, refused_at, is_declared, without_sheet, without_site, fault_of, declared_with, turn_accepted, turn_of, turn_of_line}
 use Rattle.script_run.specs.declared.seat.Seat.{Seat}
-use Rattle.script_run.specs.World.{World, new_seat, seat_at, put_seat, place_in, place_of, at_most, pushed, pulled, reading, at_each, decided, after_decided, after}
+use Rattle.script_run.specs.World.{World, new_seat, seat_at, put_seat, place_in, seat_index, at_most, pushed, pulled, reading, at_each, decided, after_decided, after_command}
 use Rattle.script_run.specs.Transcript.{printed}
-use Rattle.script_run.specs.States.{table_of, IsState, HasSite, MayStep, StepGives, run_opened, closes, is_end}
+use Rattle.script_run.specs.States.{run_state_of, IsState, HasSite, MayStep, StepGives, run_opened, closes, is_end}
 use Rattle.script_run.proofs.Worlds.{position-any, position-map}
 
 -- ---- the turn of a command by its fault
@@ -121,7 +121,7 @@ ended_open d n (Some c) e = by_kind (fault_of d c) refl (sym (by_fault d n c (fa
 abbrev pub sites_of : World → List (List ℕ)
 sites_of w = map (λ s. s.name) w.seats
 
-sites-put : (w : World) (p : ℕ) (s : Seat) → s.name ≡ (seat_at w p).name → sites_of (put_seat w p s) ≡ sites_of w
+pub sites-put : (w : World) (p : ℕ) (s : Seat) → s.name ≡ (seat_at w p).name → sites_of (put_seat w p s) ≡ sites_of w
 sites-put w p s e = same w.seats p e
   where
     same : (ss : List Seat) (i : ℕ) → s.name ≡ (slice_index_or ss i (new_seat [])).name → map (λ x. x.name) (slice_set ss i s) ≡ map (λ x. x.name) ss
@@ -129,20 +129,20 @@ sites-put w p s e = same w.seats p e
     same (x ∷ ss) zero k = ap (λ n. n ∷ map (λ y. y.name) ss) k
     same (x ∷ ss) (suc i) k = ap (λ (ns : List (List ℕ)). x.name ∷ ns) (same ss i k)
 
-sites-pushed : (w : World) (p : ℕ) (n : Option ℕ) → sites_of (pushed w p n) ≡ sites_of w
+pub sites-pushed : (w : World) (p : ℕ) (n : Option ℕ) → sites_of (pushed w p n) ≡ sites_of w
 sites-pushed w p n = let s = seat_at w p in let count = at_most n (length s.made - s.pushed) in sites-put w p (record s { pushed = s.pushed + count }) refl
 
-sites-pulled : (w : World) (p : ℕ) (n : Option ℕ) → sites_of (pulled w p n) ≡ sites_of w
+pub sites-pulled : (w : World) (p : ℕ) (n : Option ℕ) → sites_of (pulled w p n) ≡ sites_of w
 sites-pulled w p n = let s = seat_at w p in sites-put w p (record s { taken = s.taken + at_most n (length w.history - s.taken) }) refl
 
 sites-reading : (w : World) (p : ℕ) → sites_of (reading w p) ≡ sites_of w
 sites-reading w p = sites-put w p (record (seat_at w p) { read = w.published }) refl
 
-sites-decided : (w : World) (p : ℕ) (x : Result Intent EditErr) → sites_of (after_decided w p x) ≡ sites_of w
+pub sites-decided : (w : World) (p : ℕ) (x : Result Intent EditErr) → sites_of (after_decided w p x) ≡ sites_of w
 sites-decided w p (Err e) = refl
 sites-decided w p (Ok op) = let s = seat_at w p in sites-put w p (record s { made = s.made ++ record { site = record { 0 = suc p }; seen = s.taken; intent = op } ∷ [] }) refl
 
-sites-each : (does : World → ℕ → World) → ((v : World) (p : ℕ) → sites_of (does v p) ≡ sites_of v) → (first count : ℕ) (w : World) → sites_of (at_each does first count w) ≡ sites_of w
+pub sites-each : (does : World → ℕ → World) → ((v : World) (p : ℕ) → sites_of (does v p) ≡ sites_of v) → (first count : ℕ) (w : World) → sites_of (at_each does first count w) ≡ sites_of w
 sites-each does same first zero w = refl
 sites-each does same first (suc count) w = sites-each does same (suc first) count (does w first) ∙ same w first
 
@@ -151,7 +151,7 @@ sites-more [] name = refl
 sites-more (x ∷ ss) name = ap (λ (ns : List (List ℕ)). x.name ∷ ns) (sites-more ss name)
 
 -- a name is declared exactly where a seat has it
-pub declared-place : (w : World) (closed : Bool) (name : List ℕ) → is_declared (table_of (Some w) closed).declared name ≡ is_some (place_in w.seats name)
+pub declared-place : (w : World) (closed : Bool) (name : List ℕ) → is_declared (run_state_of (Some w) closed).declared name ≡ is_some (place_in w.seats name)
 declared-place w closed name = position-any (List ℕ) (bytes_eq name) (sites_of w) ∙ ap is_some (position-map (λ (s : Seat). s.name) (bytes_eq name) w.seats)
 
 -- ---- before the `sheet` line
@@ -174,7 +174,7 @@ opened_state (command.Show name) closed h = refl
 opened_state command.ShowServer closed h = refl
 opened_state command.End closed h = refl
 
-pub opened_gives : (closed : Bool) (n : ℕ) (c : Command) → fault_of (table_of None closed).declared c ≡ None → StepGives (table_of None closed) (table_of (run_opened c) closed) n c []
+pub opened_gives : (closed : Bool) (n : ℕ) (c : Command) → fault_of (run_state_of None closed).declared c ≡ None → StepGives (run_state_of None closed) (run_state_of (run_opened c) closed) n c []
 opened_gives closed n command.Note f = (refl, refl, refl)
 opened_gives closed n (command.Sheet size) f = (refl, refl, refl)
 opened_gives closed n (command.Site name) f = absurd (cc)
@@ -196,7 +196,7 @@ opened_gives closed n command.End f = absurd (cc)
 -- ---- behind it
 module _ (w : World) (closed : Bool) where
   abbrev d : Declared
-  d = (table_of (Some w) closed).declared
+  d = (run_state_of (Some w) closed).declared
 
   -- the faults of a line that names a site, and of one that declares it
   pub missing : (name : List ℕ) (b : Bool) → is_declared d name ≡ b → without_site d name ≡ cond b None (Some kind.Site)
@@ -236,7 +236,7 @@ module _ (w : World) (closed : Bool) where
           below : (m n : ℕ) → nat_lt 7 m ≡ false → m ≡ n → n < 8
           below m n e same = grind (arith, nat_tests)
 
-  pub may_step : (c : Command) → IsState (Some w) closed → IsWithin 4096 c → fault_of d c ≡ None → MayStep w c
+  pub may_step : (c : Command) → IsState (Some w) closed → CommandWithin 4096 c → fault_of d c ≡ None → MayStep w c
   may_step command.Note state within f = tt
   may_step (command.Sheet size) state within f = absurd (cc)
   may_step (command.Site name) state within f = has_room name state f
@@ -270,18 +270,18 @@ module _ (w : World) (closed : Bool) where
       by_test false = refl
 
   -- what is declared after a command
-  pub declared_after : (c : Command) → fault_of d c ≡ None → (table_of (Some (after w c)) (closed || closes c)).declared ≡ declared_with d c
+  pub declared_after : (c : Command) → fault_of d c ≡ None → (run_state_of (Some (after_command w c)) (closed || closes c)).declared ≡ declared_with d c
   declared_after command.Note f = λ i. record d { closed = open_stays i }
   declared_after (command.Sheet size) f = absurd (cc)
   declared_after (command.Site name) f = λ i. record d { sites = sites-more w.seats name i; closed = open_stays i }
-  declared_after (command.Edit name what) f = λ i. record d { sites = sites-decided w (place_of w name) (decided w (place_of w name) what) i; closed = now_closed i }
-  declared_after (command.Push name count) f = λ i. record d { sites = sites-pushed w (place_of w name) count i; closed = now_closed i }
-  declared_after (command.Pull name count) f = λ i. record d { sites = sites-pulled w (place_of w name) count i; closed = now_closed i }
+  declared_after (command.Edit name what) f = λ i. record d { sites = sites-decided w (seat_index w name) (decided w (seat_index w name) what) i; closed = now_closed i }
+  declared_after (command.Push name count) f = λ i. record d { sites = sites-pushed w (seat_index w name) count i; closed = now_closed i }
+  declared_after (command.Pull name count) f = λ i. record d { sites = sites-pulled w (seat_index w name) count i; closed = now_closed i }
   declared_after command.PushAll f = λ i. record d { sites = sites-each (λ v p. pushed v p None) (λ v p. sites-pushed v p None) 0 (length w.seats) w i; closed = now_closed i }
   declared_after command.PullAll f = λ i. record d { sites = sites-each (λ v p. pulled v p None) (λ v p. sites-pulled v p None) 0 (length w.seats) w i; closed = now_closed i }
-  declared_after (command.Sync name) f = λ i. record d { sites = sites-pushed w (place_of w name) None i; closed = now_closed i }
+  declared_after (command.Sync name) f = λ i. record d { sites = sites-pushed w (seat_index w name) None i; closed = now_closed i }
   declared_after (command.Recalc count) f = λ i. record d { closed = now_closed i }
-  declared_after (command.Read name range) f = λ i. record d { sites = sites-reading w (place_of w name) i; closed = now_closed i }
+  declared_after (command.Read name range) f = λ i. record d { sites = sites-reading w (seat_index w name) i; closed = now_closed i }
   declared_after command.Values f = λ i. record d { closed = now_closed i }
   declared_after command.History f = λ i. record d { closed = now_closed i }
   declared_after command.Wire f = λ i. record d { closed = now_closed i }
@@ -289,11 +289,11 @@ module _ (w : World) (closed : Bool) where
   declared_after command.ShowServer f = λ i. record d { closed = now_closed i }
   declared_after command.End f = λ i. record d { closed = now_closed i }
 
-  pub stepped : (n : ℕ) (c : Command) (v : World) (text : List ℕ) → fault_of d c ≡ None → text ≡ printed w n c → v ≡ after w c → StepGives (table_of (Some w) closed) (table_of (Some v) (closed || closes c)) n c text
-  stepped n c v text f says is = (says, ap (λ (x : World). (table_of (Some x) (closed || closes c)).declared) is ∙ declared_after c f, is)
+  pub stepped : (n : ℕ) (c : Command) (v : World) (text : List ℕ) → fault_of d c ≡ None → text ≡ printed w n c → v ≡ after_command w c → StepGives (run_state_of (Some w) closed) (run_state_of (Some v) (closed || closes c)) n c text
+  stepped n c v text f says is = (says, ap (λ (x : World). (run_state_of (Some x) (closed || closes c)).declared) is ∙ declared_after c f, is)
 
   -- as long as sites may be declared there is no entry
-  history_stays : (c : Command) → closes c ≡ false → (after w c).history ≡ w.history
+  history_stays : (c : Command) → closes c ≡ false → (after_command w c).history ≡ w.history
   history_stays command.Note e = refl
   history_stays (command.Sheet size) e = refl
   history_stays (command.Site name) e = refl
@@ -316,7 +316,7 @@ module _ (w : World) (closed : Bool) where
   both_open true b e = absurd (cc)
   both_open false b e = (refl, e)
 
-  pub step_state : (c : Command) (v : World) → IsState (Some w) closed → v ≡ after w c → IsState (Some v) (closed || closes c)
+  pub step_state : (c : Command) (v : World) → IsState (Some w) closed → v ≡ after_command w c → IsState (Some v) (closed || closes c)
   step_state c v state is e = let (a, b) = both_open closed (closes c) e in ap (λ (x : World). x.history) is ∙ (history_stays c b ∙ state a)
 
   pub refused_state : (c : Command) (v : World) → IsState (Some w) closed → (closes c ≡ false → v ≡ w) → IsState (Some v) (closed || closes c)

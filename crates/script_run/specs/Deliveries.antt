@@ -21,7 +21,7 @@ pub record MaySubmit (s : ServerState) (site : ℕ) (seat : Seat) : Type 0 where
   pub more : seat.pushed < length seat.made
 
 -- the client lacks an entry of a valid history that it represents
-pub record MayTake (c : ClientState) (site : ℕ) (H : List Entry) (effects : List Effect) : Type 0 where
+pub record MayPull (c : ClientState) (site : ℕ) (H : List Entry) (effects : List Effect) : Type 0 where
   pub sites : ℕ
   pub made : List Entry
   pub valid : IsValidHistory c.size sites H

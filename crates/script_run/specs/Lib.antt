@@ -1,4 +1,5 @@
 pub mod World
+pub mod Places
 pub mod Transcript
 pub mod Publishing
 pub mod Rooms

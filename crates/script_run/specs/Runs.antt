@@ -10,11 +10,12 @@ use Rattle.sheet_ops.specs.Placed.{placed}
 use Rattle.sheet_ops.specs.Represents.{sheet_at}
 use Rattle.sheet_grid.specs.Values.{placed_in}
 use Rattle.full_calc.specs.Values.{value_table}
-use Rattle.script_run.specs.declared.published.Published.{Published}
+use Rattle.script_run.specs.declared.published.PublishedSheet.{PublishedSheet}
 use Rattle.script_run.specs.declared.seat.Seat.{Seat}
 use Rattle.script_run.specs.declared.room.Room.{Room}
 use Rattle.script_run.specs.World.{World, seat_at}
 use Rattle.script_run.specs.Rooms.{RoomRepresents}
+use Rattle.script_run.specs.Places.{AreFound}
 
 -- every entry is of one site
 abbrev pub EachOf : ℕ → List Entry → Type 0
@@ -43,16 +44,17 @@ pub record IsRun (w : World) (effects : List Effect) (r : Room) : Type 0 where
   pub room : RoomRepresents w r
 
 -- a sheet, and its values where those that are kept are current
-pub record PublishedIs (X : IdSheet) (p : Published) : Type 0 where
+pub record PublishedIs (X : IdSheet) (p : PublishedSheet) : Type 0 where
   pub sheet : placed X ≡ placed_in p.sheet
   pub values : p.is_current ≡ true → p.values ≡ value_table X
 
 -- those after so many entries of the history
-pub record PublishedStands (size : Size) (H : List Entry) (p : Published) : Type 0 where
+pub record PublishedStands (size : Size) (H : List Entry) (p : PublishedSheet) : Type 0 where
   pub within : p.length ≤ length H
   pub is : PublishedIs (sheet_at size H p.length) p
 
--- the whole of a run
-pub record RunStands (w : World) (effects : List Effect) (r : Room) (p : Published) : Type 0 where
+-- the whole of a run, with the places of its sites' names
+pub record RunStands (w : World) (effects : List Effect) (r : Room) (p : PublishedSheet) (places : List (List ℕ × ℕ)) : Type 0 where
   pub run : IsRun w effects r
   pub published : PublishedStands w.size w.history p
+  pub names : AreFound w.seats places

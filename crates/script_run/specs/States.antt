@@ -10,35 +10,35 @@ use Rattle.script_read.specs.Script.{Declared, nothing_declared, LineTurn, goes,
 use Rattle.script_run.specs.declared.state.Outcome.{Outcome}
 use Rattle.script_run.specs.declared.state.Outcome.TheVariants as outcome
 use Rattle.script_run.specs.Transcript.{printed}
-use Rattle.script_run.specs.World.{World, no_world, place_in, after}
+use Rattle.script_run.specs.World.{World, no_world, place_in, after_command}
 
 -- what the lines so far have declared, and the state of the run
-pub record Table : Type 0 where
+pub record RunState : Type 0 where
   pub declared : Declared
   pub world : World
 
-abbrev pub first_table : Table
+abbrev pub first_table : RunState
 first_table = record { declared = nothing_declared; world = no_world }
 
 -- by the run, which the `sheet` line opens, and by whether no site may follow
-abbrev pub table_of : Option World → Bool → Table
-table_of None closed = record { declared = record { sheet = false; sites = []; closed = closed }; world = no_world }
-table_of (Some w) closed = record { declared = record { sheet = true; sites = map (λ s. s.name) w.seats; closed = closed }; world = w }
+abbrev pub run_state_of : Option World → Bool → RunState
+run_state_of None closed = record { declared = record { sheet = false; sites = []; closed = closed }; world = no_world }
+run_state_of (Some w) closed = record { declared = record { sheet = true; sites = map (λ s. s.name) w.seats; closed = closed }; world = w }
 
 -- before a line that closes the declarations there is no entry
 abbrev pub IsState : Option World → Bool → Type 0
-IsState run closed = closed ≡ false → (table_of run closed).world.history ≡ []
+IsState run closed = closed ≡ false → (run_state_of run closed).world.history ≡ []
 
 -- By the turn that a line comes to. A line that ends the script, or is refused, leaves the state.
-abbrev pub Gives : Table → Table → ℕ → LineTurn → Outcome → Type 0
-Gives old new n turn (outcome.Goes text) = (c : Command) × (turn ≡ goes new.declared c) × (text ≡ printed old.world n c) × (new.world ≡ after old.world c)
+abbrev pub Gives : RunState → RunState → ℕ → LineTurn → Outcome → Type 0
+Gives old new n turn (outcome.Goes text) = (c : Command) × (turn ≡ goes new.declared c) × (text ≡ printed old.world n c) × (new.world ≡ after_command old.world c)
 Gives old new n turn outcome.Ended = (turn ≡ stops ended) × (new ≡ old)
 Gives old new n turn (outcome.Refused err) = (turn ≡ stops (refused err)) × (new ≡ old)
 
-abbrev pub CommandGives : Table → Table → ℕ → Command → Outcome → Type 0
+abbrev pub CommandGives : RunState → RunState → ℕ → Command → Outcome → Type 0
 CommandGives old new n c o = Gives old new n (turn_of old.declared n c) o
 
-abbrev pub TurnGives : Table → Table → ℕ → List ℕ → Outcome → Type 0
+abbrev pub TurnGives : RunState → RunState → ℕ → List ℕ → Outcome → Type 0
 TurnGives old new n line o = Gives old new n (turn_of_line old.declared n (command_of line)) o
 
 -- a command that a run may do: not the `sheet` line, which opens one; the sites that it names are there, and one that it
@@ -63,8 +63,8 @@ TextOf (Ok done) n text = text ≡ []
 TextOf (Err e) n text = (e ≢ fault.Memory) × (text ≡ refusal_text n e)
 
 -- a command that goes on
-abbrev pub StepGives : Table → Table → ℕ → Command → List ℕ → Type 0
-StepGives old new n c text = (text ≡ printed old.world n c) × (new.declared ≡ declared_with old.declared c) × (new.world ≡ after old.world c)
+abbrev pub StepGives : RunState → RunState → ℕ → Command → List ℕ → Type 0
+StepGives old new n c text = (text ≡ printed old.world n c) × (new.declared ≡ declared_with old.declared c) × (new.world ≡ after_command old.world c)
 
 -- the run that a command opens before there is one
 abbrev pub run_opened : Command → Option World

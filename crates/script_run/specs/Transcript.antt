@@ -20,7 +20,7 @@ use Rattle.script_read.specs.declared.command.Command.TheVariants as command
 use Rattle.sheet_text.specs.Texts.{sheet_text, head_text, server_head_text, refusal_text}
 use Rattle.sheet_text.specs.Operations.{history_text, wire_text}
 use Rattle.sheet_text.specs.Values.{values_text, values_head_text, read_head_text}
-use Rattle.script_run.specs.World.{World, no_world, place_of, seat_at, view_at, pending_at, decided, after}
+use Rattle.script_run.specs.World.{World, no_world, seat_index, seat_at, site_view, pending_at, decided, after_command}
 
 -- of an edit the line of its refusal alone
 abbrev pub refusal_of : ℕ → Result Intent EditErr → List ℕ
@@ -29,7 +29,7 @@ refusal_of line (Err e) = refusal_text line e
 
 -- the sheet that a site sees
 abbrev pub show_text : World → ℕ → List ℕ
-show_text w p = let S = shown (view_at w p) in sheet_text (head_text (seat_at w p).name (seat_at w p).taken (pending_at w p) S) S
+show_text w p = let S = shown (site_view w p) in sheet_text (head_text (seat_at w p).name (seat_at w p).taken (pending_at w p) S) S
 
 -- the sheet of the history
 abbrev pub server_text : World → List ℕ
@@ -63,19 +63,19 @@ effects size H = map (effect_at size H) (range_with_len 0 (length H))
 
 -- what a command on a line prints
 abbrev pub printed : World → ℕ → Command → List ℕ
-printed w line (command.Edit name e) = let p = place_of w name in refusal_of line (decided w p e)
+printed w line (command.Edit name e) = let p = seat_index w name in refusal_of line (decided w p e)
 printed w line (command.Read name range) = range_values_text line name range w.published (published_values w)
 printed w line command.Values = all_text w.published (published_values w)
 printed w line command.History = history_text (site_names w) w.history
 printed w line command.Wire = wire_text (effects w.size w.history)
-printed w line (command.Show name) = show_text w (place_of w name)
+printed w line (command.Show name) = show_text w (seat_index w name)
 printed w line command.ShowServer = server_text w
 printed w line _ = []
 
 -- commands with the numbers of their lines
 abbrev pub transcript_from : World → List (ℕ × Command) → List ℕ
 transcript_from w [] = []
-transcript_from w (c ∷ cs) = printed w c.0 c.1 ++ transcript_from (after w c.1) cs
+transcript_from w (c ∷ cs) = printed w c.0 c.1 ++ transcript_from (after_command w c.1) cs
 
 abbrev pub transcript : List (ℕ × Command) → List ℕ
 transcript cs = transcript_from no_world cs

@@ -38,8 +38,8 @@ new_seat name = record { name = name; made = []; pushed = 0; taken = 0; read = 0
 abbrev pub place_in : List Seat → List ℕ → Option ℕ
 place_in seats name = position (λ s. bytes_eq name s.name) seats
 
-abbrev pub place_of : World → List ℕ → ℕ
-place_of w name = unwrap_or (place_in w.seats name) 0
+abbrev pub seat_index : World → List ℕ → ℕ
+seat_index w name = unwrap_or (place_in w.seats name) 0
 
 abbrev pub seat_at : World → ℕ → Seat
 seat_at w p = slice_index_or w.seats p (new_seat [])
@@ -48,8 +48,8 @@ abbrev pub put_seat : World → ℕ → Seat → World
 put_seat w p s = record w { seats = slice_set w.seats p s }
 
 -- what a site sees: the part of the history that it has taken, then its own entries that are not in it
-abbrev pub view_at : World → ℕ → IdSheet
-view_at w p = let s = seat_at w p in view w.size w.history (suc p) s.taken s.made
+abbrev pub site_view : World → ℕ → IdSheet
+site_view w p = let s = seat_at w p in view w.size w.history (suc p) s.taken s.made
 
 -- how many of its own entries are not in the part that it has taken
 abbrev pub pending_at : World → ℕ → ℕ
@@ -68,7 +68,7 @@ keys_of X _ = []
 
 -- what an edit of a site comes to on what the site sees
 abbrev pub decided : World → ℕ → Edit → Result Intent EditErr
-decided w p e = let X = view_at w p in unless_spent (operations (seat_at w p).made) (intended X e (keys_of X e))
+decided w p e = let X = site_view w p in unless_spent (operations (seat_at w p).made) (intended X e (keys_of X e))
 
 abbrev pub after_decided : World → ℕ → Result Intent EditErr → World
 after_decided w p (Err e) = w
@@ -120,29 +120,29 @@ abbrev pub each_pulled : World → World
 each_pulled w = at_each (λ v p. pulled v p None) 0 (length w.seats) w
 
 -- the state after a command
-abbrev pub after : World → Command → World
-after w command.Note = w
-after w (command.Sheet size) = record w { size = size }
-after w (command.Site name) = record w { seats = w.seats ++ new_seat name ∷ [] }
-after w (command.Edit name e) = let p = place_of w name in after_decided w p (decided w p e)
-after w (command.Push name n) = pushed w (place_of w name) n
-after w (command.Pull name n) = pulled w (place_of w name) n
-after w command.PushAll = each_pushed w
-after w command.PullAll = each_pulled w
-after w (command.Sync name) = synced w (place_of w name)
-after w (command.Recalc n) = recalculated w n
-after w (command.Read name range) = reading w (place_of w name)
-after w command.Values = w
-after w command.History = w
-after w command.Wire = w
-after w (command.Show name) = w
-after w command.ShowServer = w
-after w command.End = w
+abbrev pub after_command : World → Command → World
+after_command w command.Note = w
+after_command w (command.Sheet size) = record w { size = size }
+after_command w (command.Site name) = record w { seats = w.seats ++ new_seat name ∷ [] }
+after_command w (command.Edit name e) = let p = seat_index w name in after_decided w p (decided w p e)
+after_command w (command.Push name n) = pushed w (seat_index w name) n
+after_command w (command.Pull name n) = pulled w (seat_index w name) n
+after_command w command.PushAll = each_pushed w
+after_command w command.PullAll = each_pulled w
+after_command w (command.Sync name) = synced w (seat_index w name)
+after_command w (command.Recalc n) = recalculated w n
+after_command w (command.Read name range) = reading w (seat_index w name)
+after_command w command.Values = w
+after_command w command.History = w
+after_command w command.Wire = w
+after_command w (command.Show name) = w
+after_command w command.ShowServer = w
+after_command w command.End = w
 
 -- the state after some commands with the numbers of their lines
 abbrev pub after_all : World → List (ℕ × Command) → World
 after_all w [] = w
-after_all w (c ∷ cs) = after_all (after w c.1) cs
+after_all w (c ∷ cs) = after_all (after_command w c.1) cs
 
 abbrev pub world_after : List (ℕ × Command) → World
 world_after cs = after_all no_world cs

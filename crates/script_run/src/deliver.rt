@@ -9,7 +9,7 @@ ghost use Rattle.jup_client.specs.Clients.{down_at};
 ghost use Rattle.jup_client.specs.declared.client.TakeErr.TheVariants as take_fault;
 ghost use Rattle.jup_server.specs.declared.SubmitErr.TheVariants as submit_fault;
 ghost use Rattle.script_run.specs.Runs.{AreEffectsOf};
-ghost use Rattle.script_run.specs.Deliveries.{MaySubmit, MayTake};
+ghost use Rattle.script_run.specs.Deliveries.{MaySubmit, MayPull};
 
 use crate::seat::Seat;
 use jup_client::{Client, Down, TakeErr};
@@ -91,7 +91,7 @@ pub fn deliver(
     history: &[Entry],
     effects: &[Effect],
 ) -> Result<(), Memory>
-    requires { MayTake client.old site.0 history.now effects.now }
+    requires { MayPull client.old site.0 history.now effects.now }
     ensures represents { (G : List Entry) → ClientRepresents client.old history.now G → IsPrefixOf (own_entries site.0 history.now) G →
         OnOk result (ClientRepresents client.new history.now G) }
     ensures counts { OnOk result ((client.new.site ≡ client.old.site) × (client.new.size ≡ client.old.size) × (client.new.taken ≡ client.old.taken + 1)) }

@@ -5,7 +5,7 @@ ghost use Rattle.sheet_ops.specs.History.{own_entries, IsValidHistory};
 ghost use Rattle.sheet_ops.specs.Represents.{ClientRepresents};
 ghost use Rattle.sheet_ops.specs.Fits.{IntentFits};
 ghost use Rattle.sheet_ops.specs.Placed.{placed_size};
-ghost use Rattle.jup_client.specs.Clients.{entry_of};
+ghost use Rattle.jup_client.specs.Clients.{own_entry};
 ghost use Rattle.script_read.specs.Commands.{EditWithin};
 ghost use Rattle.script_run.specs.Issues.{Decides, Issues};
 
@@ -24,7 +24,7 @@ fn done(client: &mut Client, intent: Intent) -> Result<(), EditErr>
     ensures causes { IfErr result (λ x. (x ≡ EditErr.Spent) ⊎ (x ≡ EditErr.Memory)) }
     ensures counts { OnOk result ((client.new.site ≡ client.old.site) × (client.new.size ≡ client.old.size) × (client.new.taken ≡ client.old.taken)) }
     ensures represents { (sites : ℕ) (H G : List Entry) → IsValidHistory client.old.size sites H → ClientRepresents client.old H G → IsPrefixOf (own_entries client.old.site H) G →
-        OnOk result (ClientRepresents client.new H (G ++ entry_of client.old intent ∷ [])) }
+        OnOk result (ClientRepresents client.new H (G ++ own_entry client.old intent ∷ [])) }
     ensures err { OnErr result (client.new ≡ client.old) }
 {
     client.edit(intent)?;

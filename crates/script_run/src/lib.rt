@@ -6,6 +6,7 @@ mod deliver;
 mod issue;
 mod keys;
 pub mod laws;
+mod places;
 mod published;
 mod room;
 mod run;

@@ -21,7 +21,7 @@ use std::sync::ledger::{Blank, Ledger};
 
 /// The sheet of the entries of a history that are published, and the values of its last evaluation.
 #[derive(Debug, Drop)]
-pub struct Published {
+pub struct PublishedSheet {
     /// How many entries are published.
     pub length: u32,
     sheet: Sheet,
@@ -30,9 +30,9 @@ pub struct Published {
     is_current: bool,
 }
 
-impl Published {
+impl PublishedSheet {
     /// The opening sheet of a size: no entry is published.
-    pub fn new(alloc: Global, size: Size) -> Result<Published, Memory>
+    pub fn new(alloc: Global, size: Size) -> Result<PublishedSheet, Memory>
         requires rows { size.rows ≤ 1000 }
         requires cols { size.cols ≤ 64 }
         ensures length { IfOk result (λ p. p.length ≡ 0) }
@@ -40,7 +40,7 @@ impl Published {
     {
         let sheet = Sheet::new(alloc, size)?;
         let values = Grid::new(alloc, size)?;
-        Ok(Published {
+        Ok(PublishedSheet {
             length: 0,
             sheet,
             values,
@@ -74,6 +74,13 @@ impl Published {
     {
         self.evaluate(alloc)?;
         all_text(alloc, self.length, &self.values)
+    }
+
+    /// The values, evaluated anew.
+    pub fn evaluated(&self, alloc: Global) -> Result<Grid, Memory>
+        ensures { (X : IdSheet) → IsWellFormed X → PublishedIs X self.now → IfOk result (λ g. g ≡ value_table X) }
+    {
+        evaluated(alloc, &self.sheet)
     }
 
     /// What the site of this name reads in a range, which is refused by the number of its line where it

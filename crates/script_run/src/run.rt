@@ -1,25 +1,31 @@
 ghost use Rattle.std.specs.Prelude.{◌≡◌, ◌≢◌, ◌≤◌, ◌<◌, ◌-◌, ◌+◌, [], ◌∷◌, ◌++◌, length, map, Some, None, Ok, Err, IfOk, OnOk, OnErr, IfErr, ℕ, is_some, true, false};
-ghost use Rattle.std.specs.Str.{bytes_eq};
 ghost use Rattle.sheet_ops.specs.declared.operation.Intent.{Intent};
+ghost use Rattle.sheet_ops.specs.History.{sheet_of};
+ghost use Rattle.sheet_ops.specs.Placed.{placed};
+ghost use Rattle.sheet_grid.specs.Values.{placed_in};
 ghost use Rattle.script_read.specs.declared.command.Command.TheVariants as command;
 ghost use Rattle.script_read.specs.Commands.{EditWithin};
-ghost use Rattle.script_run.specs.World.{no_world, new_seat, place_of, place_in, seat_at, decided, after_decided, at_most, pushed, pulled, recalculated, synced, reading, each_pushed, each_pulled, after};
+ghost use Rattle.script_run.specs.World.{no_world, new_seat, seat_index, place_in, seat_at, site_view, decided, after_decided, at_most, pushed, pulled, recalculated, synced, reading, each_pushed, each_pulled, after_command};
 ghost use Rattle.sheet_text.specs.Operations.{history_text, wire_text};
 ghost use Rattle.script_run.specs.Transcript.{all_text, effects, site_names, published_values, range_values_text, show_text, server_text, printed};
+ghost use Rattle.script_run.specs.Places.{with_place};
 ghost use Rattle.script_run.specs.Rooms.{RoomRepresents};
 ghost use Rattle.script_run.specs.States.{MayStep, closes};
 
 use crate::deliver::{deliver, hand_in};
 use crate::issue::issue;
-use crate::published::Published;
+use crate::places::Places;
+use crate::published::PublishedSheet;
 use crate::room::Room;
 use crate::seat::Seat;
 use crate::text::{nothing, text_of};
 use jup_client::Client;
 use jup_server::Server;
 use script_read::Command;
+use sheet_grid::Sheet;
 use sheet_ops::{Edit, EditErr, Effect, Entry};
 use sheet_text::{head, history_lines, server_head, sheet_lines, wire_lines};
+use sheet_value::Grid;
 use ss_base::{Memory, Seq, Site, Size, Span, Txt};
 use std::alloc::Global;
 use std::marker::Model;
@@ -33,9 +39,11 @@ pub struct Run {
     /// What each entry of the history does, as it goes to every site but its author's.
     effects: Vec<Effect>,
     seats: Vec<Seat>,
+    /// Where each name stands among the seats.
+    places: Places,
     server: Server,
     clients: Vec<Client>,
-    published: Published,
+    published: PublishedSheet,
 }
 
 impl Model for Run {
@@ -51,7 +59,7 @@ impl Model for Run {
     ghost view = { λ r. record { size = r.size; history = r.history.items; published = r.published.length; seats = r.seats.items } };
 
     ghost invariant = { λ r. RunStands (record { size = r.size; history = r.history.items; published = r.published.length; seats = r.seats.items })
-        r.effects.items (record { server = r.server; clients = r.clients.items }) r.published };
+        r.effects.items (record { server = r.server; clients = r.clients.items }) r.published r.places };
 }
 
 impl Run {
@@ -62,12 +70,13 @@ impl Run {
         ensures { IfOk result (λ r. r ≡ record no_world { size = size }) }
     {
         let server = Server::new(alloc, size, 1)?;
-        let published = Published::new(alloc, size)?;
+        let published = PublishedSheet::new(alloc, size)?;
         Ok(Run {
             size,
             history: Vec::new(alloc),
             effects: Vec::new(alloc),
             seats: Vec::new(alloc),
+            places: Places::new(alloc),
             server,
             clients: Vec::new(alloc),
             published,
@@ -83,11 +92,12 @@ impl Run {
         self.seats.len()
     }
 
-    /// The place of the site with this name, if there is one.
+    /// The place of the site with this name, if there is one. It takes constant time on the average, beside
+    /// the time for the bytes of the name.
     pub fn place_of(&self, name: &Txt) -> Option<usize>
         ensures { result ≡ place_in self.now.seats name.now }
     {
-        first_of(self.seats.as_slice(), name)
+        self.places.get(name)
     }
 
     /// The number of the site at a place.
@@ -108,18 +118,16 @@ impl Run {
         ensures err { OnErr result (self.new ≡ self.old) }
     {
         let sites = self.seats.len() as u8 + 1;
-        let name = name.copy()?;
         let server = Server::new(alloc, self.size, sites)?;
         let client = Client::new(alloc, Site(sites), self.size)?;
-        self.seats.reserve(1)?;
-        self.clients.push(client)?;
-        self.seats.push_reserved(Seat {
+        add_seat(
+            alloc,
+            &mut self.seats,
+            &mut self.places,
+            &mut self.clients,
             name,
-            made: Seq::new(alloc),
-            pushed: 0,
-            taken: 0,
-            read: 0,
-        });
+            client,
+        )?;
         self.server = server;
         Ok(())
     }
@@ -298,7 +306,7 @@ impl Run {
         range: &Span,
     ) -> Result<Txt, Memory>
         requires { MayStep self.old (command.Read name.now range.now) }
-        ensures ok { IfOk result (λ t. (t ≡ printed self.old number (command.Read name.now range.now)) × (self.new ≡ after self.old (command.Read name.now range.now))) }
+        ensures ok { IfOk result (λ t. (t ≡ printed self.old number (command.Read name.now range.now)) × (self.new ≡ after_command self.old (command.Read name.now range.now))) }
         ensures err { OnErr result (self.new ≡ self.old) }
     {
         let place = self.place(name);
@@ -352,7 +360,7 @@ impl Run {
     /// Does an edit of a site, and gives what is printed of it by the number of its line.
     fn edited(&mut self, alloc: Global, number: u32, name: &Txt, edit: &Edit) -> Result<Txt, Memory>
         requires { MayStep self.old (command.Edit name.now edit.now) }
-        ensures { IfOk result (λ t. (t ≡ printed self.old number (command.Edit name.now edit.now)) × (self.new ≡ after self.old (command.Edit name.now edit.now))) }
+        ensures { IfOk result (λ t. (t ≡ printed self.old number (command.Edit name.now edit.now)) × (self.new ≡ after_command self.old (command.Edit name.now edit.now))) }
     {
         let place = self.place(name);
         let answer = self.edit(alloc, place, edit);
@@ -362,7 +370,7 @@ impl Run {
     /// The place of a site that is there.
     fn place(&self, name: &Txt) -> usize
         requires { is_some (place_in self.now.seats name.now) ≡ true }
-        ensures place { result ≡ place_of self.now name.now }
+        ensures place { result ≡ seat_index self.now name.now }
         ensures within { result < length self.now.seats }
     {
         match self.place_of(name) {
@@ -375,7 +383,7 @@ impl Run {
     /// where it wanted memory for a site; else the pushes, the pulls and the publishing that were done stand.
     pub fn step(&mut self, alloc: Global, number: u32, command: &Command) -> Result<Txt, Memory>
         requires { MayStep self.old command.now }
-        ensures ok { IfOk result (λ t. (t ≡ printed self.old number command.now) × (self.new ≡ after self.old command.now)) }
+        ensures ok { IfOk result (λ t. (t ≡ printed self.old number command.now) × (self.new ≡ after_command self.old command.now)) }
         ensures err { OnErr result (closes command.now ≡ false → self.new ≡ self.old) }
     {
         match command {
@@ -419,6 +427,45 @@ impl Run {
         }
     }
 
+    /// How many entries the history has.
+    pub fn length(&self) -> usize
+        ensures { result ≡ length self.now.history }
+    {
+        let _size = self.size;
+        self.history.len()
+    }
+
+    /// How many entries are published.
+    pub fn published_length(&self) -> u32
+        ensures { result ≡ self.now.published }
+    {
+        self.published.length
+    }
+
+    /// The values of what is published, evaluated anew. It takes the time of a full evaluation.
+    pub fn evaluated(&self, alloc: Global) -> Result<Grid, Memory>
+        ensures { IfOk result (λ g. g ≡ published_values self.now) }
+    {
+        self.published.evaluated(alloc)
+    }
+
+    /// The server's sheet: that of the history.
+    pub fn server_sheet(&self) -> &Sheet
+        ensures { placed_in result.now ≡ placed (sheet_of self.now.size self.now.history) }
+    {
+        let _size = self.size;
+        self.server.sheet()
+    }
+
+    /// The sheet that the site at a place sees.
+    pub fn replica(&self, place: usize) -> &Sheet
+        requires { place < length self.now.seats }
+        ensures { placed_in result.now ≡ placed (site_view self.now place) }
+    {
+        let client = &self.clients[place];
+        client.sheet()
+    }
+
     /// The server and the clients, as the run leaves them. It takes no memory.
     pub fn into_room(self) -> Room
         ensures { RoomRepresents self result }
@@ -430,11 +477,34 @@ impl Run {
     }
 }
 
-/// The place of the first seat with this name.
-fn first_of(seats: &[Seat], name: &Txt) -> Option<usize>
-    ensures { result ≡ place_in seats.now name.now }
+/// Gives a new site its seat and its client, and its name the place of that seat, unless the name has a
+/// place. A refused call leaves all three.
+fn add_seat(
+    alloc: Global,
+    seats: &mut Vec<Seat>,
+    places: &mut Places,
+    clients: &mut Vec<Client>,
+    name: &Txt,
+    client: Client,
+) -> Result<(), Memory>
+    ensures seats { OnOk result (seats.new.items ≡ seats.old.items ++ new_seat name.now ∷ []) }
+    ensures places { OnOk result (places.new ≡ with_place places.old name.now (length seats.old.items)) }
+    ensures clients { OnOk result (clients.new.items ≡ clients.old.items ++ client ∷ []) }
+    ensures err { OnErr result ((seats.new.items ≡ seats.old.items) × (places.new ≡ places.old) × (clients.new.items ≡ clients.old.items)) }
 {
-    seats.iter().position(|seat| is_of(seat, name))
+    seats.reserve(1)?;
+    clients.reserve(1)?;
+    let kept = name.copy()?;
+    places.add(name, seats.len())?;
+    clients.push_reserved(client);
+    seats.push_reserved(Seat {
+        name: kept,
+        made: Seq::new(alloc),
+        pushed: 0,
+        taken: 0,
+        read: 0,
+    });
+    Ok(())
 }
 
 /// The names of seats, in their order.
@@ -446,12 +516,6 @@ fn names_of(alloc: Global, seats: &[Seat]) -> Result<Vec<Txt>, Memory>
         names.push(seat.name.copy()?)?;
     }
     Ok(names)
-}
-
-fn is_of(seat: &Seat, name: &Txt) -> bool
-    ensures { result ≡ bytes_eq name.now seat.now.name }
-{
-    name.bytes() == seat.name.bytes()
 }
 
 /// A number that is asked for, or all that is left.

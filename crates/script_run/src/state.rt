@@ -1,8 +1,8 @@
 ghost use Rattle.std.specs.Prelude.{◌≡◌, ◌≤◌, ◌||◌, Bool, true, is_some, nat_lt, IfOk, Some, None, length};
 ghost use Rattle.script_read.specs.declared.command.Command.TheVariants as command;
 ghost use Rattle.script_read.specs.Script.{fault_of, is_declared, without_site};
-ghost use Rattle.script_read.specs.Commands.{IsWithin};
-ghost use Rattle.script_run.specs.States.{first_table, table_of, CommandGives, TurnGives, StepGives, run_opened, closes, is_end};
+ghost use Rattle.script_read.specs.Commands.{CommandWithin};
+ghost use Rattle.script_run.specs.States.{first_table, run_state_of, CommandGives, TurnGives, StepGives, run_opened, closes, is_end};
 ghost use Rattle.script_run.specs.World.{place_in};
 ghost use Rattle.script_run.specs.Rooms.{RoomRepresents};
 
@@ -37,13 +37,13 @@ pub struct ScriptState {
 impl Model for ScriptState {
     ghost use Rattle.std.specs.Coded.{codes};
     ghost use Rattle.sheet_ops.specs.contracts.operation.Entry as entry;
-    ghost use Rattle.script_run.specs.States.{Table, table_of, IsState};
+    ghost use Rattle.script_run.specs.States.{RunState, run_state_of, IsState};
 
-    ghost Value = { Table };
+    ghost Value = { RunState };
 
     ghost coded = { Prim.hlevel (codes, entry.the_row.coded) };
 
-    ghost view = { λ s. table_of s.run s.closed };
+    ghost view = { λ s. run_state_of s.run s.closed };
 
     ghost invariant = { λ s. IsState s.run s.closed };
 }
@@ -82,7 +82,7 @@ impl ScriptState {
         number: u32,
         command: &Command,
     ) -> Result<Outcome, Memory>
-        requires { IsWithin 4096 command.now }
+        requires { CommandWithin 4096 command.now }
         ensures { IfOk result (λ o. CommandGives self.old self.new number command.now o) }
     {
         if let Some(kind) = self.fault_of(command) {
@@ -107,7 +107,7 @@ impl ScriptState {
 
     /// Does a command that no fault fits, and gives what it prints by the number of its line.
     fn step(&mut self, alloc: Global, number: u32, command: &Command) -> Result<Txt, Memory>
-        requires within { IsWithin 4096 command.now }
+        requires within { CommandWithin 4096 command.now }
         requires accepted { fault_of self.old.declared command.now ≡ None }
         ensures { IfOk result (λ t. StepGives self.old self.new number command.now t) }
     {
@@ -137,7 +137,7 @@ impl ScriptState {
 
 /// The fault of a command before the `sheet` line.
 fn fault_unopened(command: &Command) -> Option<ScriptKind>
-    ensures { (closed : Bool) → result ≡ fault_of (table_of None closed).declared command.now }
+    ensures { (closed : Bool) → result ≡ fault_of (run_state_of None closed).declared command.now }
 {
     match command {
         Command::Note | Command::Sheet(_) => None,
@@ -147,7 +147,7 @@ fn fault_unopened(command: &Command) -> Option<ScriptKind>
 
 /// The fault of a command behind the `sheet` line.
 fn fault_in(run: &Run, closed: bool, command: &Command) -> Option<ScriptKind>
-    ensures { result ≡ fault_of (table_of (Some run.now) closed).declared command.now }
+    ensures { result ≡ fault_of (run_state_of (Some run.now) closed).declared command.now }
 {
     match command {
         Command::Sheet(_) => Some(ScriptKind::Sheet),
@@ -171,14 +171,14 @@ fn fault_in(run: &Run, closed: bool, command: &Command) -> Option<ScriptKind>
 }
 
 fn is_declared(run: &Run, name: &Txt) -> bool
-    ensures { (closed : Bool) → result ≡ is_declared (table_of (Some run.now) closed).declared name.now }
+    ensures { (closed : Bool) → result ≡ is_declared (run_state_of (Some run.now) closed).declared name.now }
 {
     run.place_of(name).is_some()
 }
 
 /// The fault of a line that names a site.
 fn site_missing(run: &Run, name: &Txt) -> Option<ScriptKind>
-    ensures { (closed : Bool) → result ≡ without_site (table_of (Some run.now) closed).declared name.now }
+    ensures { (closed : Bool) → result ≡ without_site (run_state_of (Some run.now) closed).declared name.now }
 {
     if is_declared(run, name) {
         None
@@ -189,7 +189,7 @@ fn site_missing(run: &Run, name: &Txt) -> Option<ScriptKind>
 
 /// The fault of a line that declares a site.
 fn site_refused(run: &Run, closed: bool, name: &Txt) -> Option<ScriptKind>
-    ensures { result ≡ fault_of (table_of (Some run.now) closed).declared (command.Site name.now) }
+    ensures { result ≡ fault_of (run_state_of (Some run.now) closed).declared (command.Site name.now) }
 {
     if refuses_site(run, closed, name) {
         Some(ScriptKind::Site)
@@ -207,7 +207,7 @@ fn refuses_site(run: &Run, closed: bool, name: &Txt) -> bool
 
 /// The run that a first command opens, if it is the `sheet` line.
 fn opened(alloc: Global, command: &Command) -> Result<Option<Run>, Memory>
-    requires { IsWithin 4096 command.now }
+    requires { CommandWithin 4096 command.now }
     ensures { IfOk result (λ r. r ≡ run_opened command.now) }
 {
     match command {

@@ -1,5 +1,5 @@
 -- A run in the middle: what was written, and what the rest will come to.
-use Rattle.std.proofs.Common.{◌≡◌, ℕ, ◌+◌, true, false, cond, List, [], ◌∷◌, ◌++◌, take, drop, refl, ap, sym, ◌∙◌, subst, append_assoc, Option, Some, None, Result, Ok, Err}
+use Rattle.std.proofs.Common.{◌≡◌, ℕ, ◌+◌, true, false, cond, List, [], ◌∷◌, ◌++◌, take, drop, refl, ap, sym, ◌∙◌, subst, append_assoc, arith, length-append, length-drop, Option, Some, None, Result, Ok, Err}
 use Rattle.std.proofs.lemmas.List.{append-nil, take-append-drop}
 use Rattle.ss_base.specs.Streams.{AddsBack, TakesPrefix}
 use Rattle.ss_base.specs.Lines.{Line, FeedState, is_long, lines, lines_left, GivesLine}
@@ -12,21 +12,21 @@ use Rattle.script_read.specs.Script.{Stop, ended, too_long, refused, refused_at,
 use Rattle.script_run.specs.declared.state.Outcome.TheVariants as outcome
 use Rattle.script_run.specs.World.{World, after_all, world_after}
 use Rattle.script_run.specs.Transcript.{transcript_from, transcript}
-use Rattle.script_run.specs.States.{Table, first_table, TurnGives}
+use Rattle.script_run.specs.States.{RunState, first_table, TurnGives}
 use Rattle.script_run.proofs.Turns.{ended_open}
 use Rattle.sheetshare.specs.declared.play.Flow.{Flow}
 use Rattle.sheetshare.specs.declared.play.Flow.TheVariants as flow
 use Rattle.sheetshare.specs.declared.play.Status.{Status}
 use Rattle.sheetshare.specs.declared.play.Status.TheVariants as status
 use Rattle.sheetshare.specs.LineGives.{LineGives}
-use Rattle.sheetshare.specs.Played.{Wrote, WrotePrefix, Played}
+use Rattle.sheetshare.specs.Played.{Wrote, WrotePrefix, WroteFront, Played, StopsAs}
 
 -- what an equal line comes to, and an equal answer to it
-pub of_line : (t t' : Table) (n : ℕ) (line held : List ℕ) (a b : Option (List ℕ)) (x y : Result Flow Status) → line ≡ held → x ≡ y → LineGives t t' n line a b x → LineGives t t' n held a b y
+pub of_line : (t t' : RunState) (n : ℕ) (line held : List ℕ) (a b : Option (List ℕ)) (x y : Result Flow Status) → line ≡ held → x ≡ y → LineGives t t' n line a b x → LineGives t t' n held a b y
 of_line t t' n line held a b x y e f k = subst (λ (z : Result Flow Status). LineGives t t' n held a b z) f (subst (λ (l : List ℕ). LineGives t t' n l a b x) e k)
 
 -- ---- the next of the lines that are left
-module _ (t : Table) (n : ℕ) (left : Option (List Line)) (whole : List Line) (left_is : left ≡ Some whole) where
+module _ (t : RunState) (n : ℕ) (left : Option (List Line)) (whole : List Line) (left_is : left ≡ Some whole) where
   known : (new : Option (List Line)) (held : List ℕ) (x : _) → GivesLine left new held x → GivesLine (Some whole) new held x
   known new held x h = rw left_is at h
 
@@ -58,15 +58,16 @@ pub starts : (f : FeedState) → f ≡ record { line = []; ahead = []; used = 0 
 starts f empty bytes left is = ap (λ (g : FeedState). lines_left g left) empty ∙ ap (lines_left (record { line = []; ahead = []; used = 0 })) is
 
 -- ---- the state of the run
-pub record Reads (s : Script) (left : Option (List Line)) (t : Table) (n : ℕ) : Type 0 where
+pub record Reads (s : Script) (left : Option (List Line)) (t : RunState) (n : ℕ) : Type 0 where
   pub rest : List Line
   pub left_is : left ≡ Some rest
   pub world : after_all t.world (script_from t.declared n rest).commands ≡ world_after s.commands
+  pub stop : (script_from t.declared n rest).stop ≡ s.stop
 
 pub reads_first : (ls : List Line) (left : Option (List Line)) → left ≡ Some ls → Reads (script_of ls) left first_table 1
-reads_first ls left is = record { rest = ls; left_is = is; world = refl }
+reads_first ls left is = record { rest = ls; left_is = is; world = refl; stop = refl }
 
-module _ (s : Script) (left : Option (List Line)) (t : Table) (n : ℕ) (r : Reads s left t n) (t' : Table) (new : Option (List Line)) (held : List ℕ) (h : GivesLine left new held (Ok read.Line)) where
+module _ (s : Script) (left : Option (List Line)) (t : RunState) (n : ℕ) (r : Reads s left t n) (t' : RunState) (new : Option (List Line)) (held : List ℕ) (h : GivesLine left new held (Ok read.Line)) where
   pub reads_on : (text : List ℕ) → TurnGives t t' n held (outcome.Goes text) → Reads s new t' (n + 1)
   reads_on text k =
       let here = turn_here t n left r.rest r.left_is new held h (goes t'.declared k.0) k.1 in
@@ -74,20 +75,50 @@ module _ (s : Script) (left : Option (List Line)) (t : Table) (n : ℕ) (r : Rea
         rest = here.0;
         left_is = here.1;
         world = ap (λ (v : World). after_all v (script_from t'.declared (n + 1) here.0).commands) k.3 ∙ (sym (ap (λ (q : Script). after_all t.world q.commands) here.2) ∙ r.world);
+        stop = sym (ap (λ (q : Script). q.stop) here.2) ∙ r.stop;
       }
 
   -- where the script ends the state is the last one
   pub world_here : TurnGives t t' n held outcome.Ended → t'.world ≡ world_after s.commands
   world_here k =
       let here = turn_here t n left r.rest r.left_is new held h (stops ended) k.0 in
-      ap (λ (u : Table). u.world) k.1 ∙ (sym (ap (λ (q : Script). after_all t.world q.commands) here.2) ∙ r.world)
+      ap (λ (u : RunState). u.world) k.1 ∙ (sym (ap (λ (q : Script). after_all t.world q.commands) here.2) ∙ r.world)
 
 -- a script that ends has a sheet
-pub opened_here : (t t' : Table) (n : ℕ) (held : List ℕ) → TurnGives t t' n held outcome.Ended → t'.declared.sheet ≡ true
-opened_here t t' n held k = ap (λ (u : Table). u.declared.sheet) k.1 ∙ ended_open t.declared _ _ k.0
+pub opened_here : (t t' : RunState) (n : ℕ) (held : List ℕ) → TurnGives t t' n held outcome.Ended → t'.declared.sheet ≡ true
+opened_here t t' n held k = ap (λ (u : RunState). u.declared.sheet) k.1 ∙ ended_open t.declared _ _ k.0
+
+-- where the run stops the script does
+module _ (s : Script) (left : Option (List Line)) (t : RunState) (n : ℕ) (r : Reads s left t n) where
+  stop_is : (ls : List Line) → r.rest ≡ ls → (why : Stop) → (script_from t.declared n ls).stop ≡ why → s.stop ≡ why
+  stop_is ls e why h = sym r.stop ∙ (ap (λ (ks : List Line). (script_from t.declared n ks).stop) e ∙ h)
+
+  pub stop_at_end : (new : Option (List Line)) (held : List ℕ) → GivesLine left new held (Ok read.End) → s.stop ≡ refused_at n kind.Unended
+  stop_at_end new held h = stop_is [] (at_end_of t n left r.rest r.left_is new held (known t n left r.rest r.left_is new held (Ok read.End) h)) (refused_at n kind.Unended) refl
+
+  pub stop_at_long : (new : Option (List Line)) (held : List ℕ) → GivesLine left new held (Err fault.TooLong) → s.stop ≡ too_long n
+  stop_at_long new held h =
+      let (l, rest, e, long) = long_of t n left r.rest r.left_is new held (known t n left r.rest r.left_is new held (Err fault.TooLong) h) in
+      stop_is (l ∷ rest) e (too_long n) (ap (λ b. (after_turn n (cond b (stops (too_long n)) (turn_of_line t.declared n (command_of l.bytes))) (λ d. script_from d (n + 1) rest)).stop) long)
+
+  stop_at_line : (new : Option (List Line)) (held : List ℕ) → GivesLine left new held (Ok read.Line) → (why : Stop) → turn_of_line t.declared n (command_of held) ≡ stops why → s.stop ≡ why
+  stop_at_line new held h why k = stop_is r.rest refl why (ap (λ (q : Script). q.stop) ((turn_here t n left r.rest r.left_is new held h (stops why) k).2))
+
+  module _ (t' : RunState) (new : Option (List Line)) (held : List ℕ) (before after : Option (List ℕ)) (h : GivesLine left new held (Ok read.Line)) where
+    pub stop_at_error : (e : Status) → LineGives t t' n held before after (Err e) → StopsAs s.stop e
+    stop_at_error (status.Script err) k = stop_at_line new held h (refused err) k.turn.0
+    stop_at_error status.WriteFault k = tt
+    stop_at_error status.Memory k = tt
+    stop_at_error status.Done k = absurd k
+    stop_at_error status.ReadFault k = tt
+    stop_at_error status.Usage k = tt
+    stop_at_error (status.TooLong line) k = absurd k
+
+    pub stop_at_ended : LineGives t t' n held before after (Ok flow.Ended) → s.stop ≡ ended
+    stop_at_ended k = stop_at_line new held h ended k.turn.0
 
 -- ---- and what was written
-pub record Runs (s : Script) (before : List ℕ) (left : Option (List Line)) (taken : Option (List ℕ)) (t : Table) (n : ℕ) : Type 0 where
+pub record Runs (s : Script) (before : List ℕ) (left : Option (List Line)) (taken : Option (List ℕ)) (t : RunState) (n : ℕ) : Type 0 where
   pub rest : List Line
   pub part : List ℕ
   pub left_is : left ≡ Some rest
@@ -102,7 +133,7 @@ runs_first ls before left taken l t = record { rest = ls; part = []; left_is = l
 pub nothing_yet : (s : Script) (before : List ℕ) (taken : Option (List ℕ)) → taken ≡ Some before → WrotePrefix s before taken
 nothing_yet s before taken t = ([], transcript s.commands, refl, t ∙ ap Some (sym (append-nil before)))
 
-module _ (s : Script) (before : List ℕ) (left : Option (List Line)) (taken : Option (List ℕ)) (t : Table) (n : ℕ) (r : Runs s before left taken t n) where
+module _ (s : Script) (before : List ℕ) (left : Option (List Line)) (taken : Option (List ℕ)) (t : RunState) (n : ℕ) (r : Runs s before left taken t n) where
   -- the text so far is a front of all
   pub cut : WrotePrefix s before taken
   cut = (r.part, transcript_from t.world (script_from t.declared n r.rest).commands, r.text, r.taken_is)
@@ -126,14 +157,14 @@ module _ (s : Script) (before : List ℕ) (left : Option (List Line)) (taken : O
   stops_here : (new : Option (List Line)) (held : List ℕ) → GivesLine left new held (Ok read.Line) → (why : Stop) → turn_of_line t.declared n (command_of held) ≡ stops why → (s.stop ≡ why) × Wrote s before taken
   stops_here new held h why k = stopped r.rest refl why ((turn_here t n left r.rest r.left_is new held h (stops why) k).2)
 
-  pub at_done : (t' : Table) (new : Option (List Line)) (held : List ℕ) → GivesLine left new held (Ok read.Line) → TurnGives t t' n held outcome.Ended → Played s before taken status.Done
+  pub at_done : (t' : RunState) (new : Option (List Line)) (held : List ℕ) → GivesLine left new held (Ok read.Line) → TurnGives t t' n held outcome.Ended → Played s before taken status.Done
   at_done t' new held h k = stops_here new held h ended k.0
 
-  pub at_refused : (t' : Table) (new : Option (List Line)) (held : List ℕ) (err : ScriptErr) → GivesLine left new held (Ok read.Line) → TurnGives t t' n held (outcome.Refused err) → Played s before taken (status.Script err)
+  pub at_refused : (t' : RunState) (new : Option (List Line)) (held : List ℕ) (err : ScriptErr) → GivesLine left new held (Ok read.Line) → TurnGives t t' n held (outcome.Refused err) → Played s before taken (status.Script err)
   at_refused t' new held err h k = stops_here new held h (refused err) k.0
 
   -- what the line prints, and the rest after it
-  module _ (t' : Table) (new : Option (List Line)) (held text : List ℕ) (h : GivesLine left new held (Ok read.Line)) (k : TurnGives t t' n held (outcome.Goes text)) where
+  module _ (t' : RunState) (new : Option (List Line)) (held text : List ℕ) (h : GivesLine left new held (Ok read.Line)) (k : TurnGives t t' n held (outcome.Goes text)) where
     abbrev here : (rest : List Line) × (new ≡ Some rest) × (script_from t.declared n r.rest ≡ after_turn n (goes t'.declared k.0) (λ d. script_from d (n + 1) rest))
     here = turn_here t n left r.rest r.left_is new held h (goes t'.declared k.0) k.1
 
@@ -157,7 +188,7 @@ module _ (s : Script) (before : List ℕ) (left : Option (List Line)) (taken : O
       stop = sym (ap (λ (q : Script). q.stop) here.2) ∙ r.stop;
     }
 
-    pub cut_here : (taken' : Option (List ℕ)) → TakesPrefix taken taken' text → WrotePrefix s before taken'
+    pub cut_here : (taken' : Option (List ℕ)) → TakesPrefix taken taken' text → WroteFront s before taken'
     cut_here taken' (m, small, a) =
         let more = transcript_from t'.world (script_from t'.declared (n + 1) here.0).commands in (
           r.part ++ take m text,
@@ -165,11 +196,12 @@ module _ (s : Script) (before : List ℕ) (left : Option (List Line)) (taken : O
           append_assoc r.part (take m text) (drop m text ++ more)
               ∙ (ap (λ p. r.part ++ p) (sym (append_assoc (take m text) (drop m text) more))
               ∙ (ap (λ p. r.part ++ (p ++ more)) (take-append-drop m text) ∙ (sym (append_assoc r.part text more) ∙ text_here))),
+          simp (length-append, length-drop) (omega arith),
           added (take m text) taken' (rw r.taken_is at a),
         )
 
   -- an end at a line that is refused, at a fault of the sink or at want of memory
-  pub at_stop : (t' : Table) (new : Option (List Line)) (held : List ℕ) (taken' : Option (List ℕ)) (e : Status) → GivesLine left new held (Ok read.Line) → LineGives t t' n held taken taken' (Err e) → Played s before taken' e
+  pub at_stop : (t' : RunState) (new : Option (List Line)) (held : List ℕ) (taken' : Option (List ℕ)) (e : Status) → GivesLine left new held (Ok read.Line) → LineGives t t' n held taken taken' (Err e) → Played s before taken' e
   at_stop t' new held taken' (status.Script err) h k = subst (λ (x : Option (List ℕ)). Played s before x (status.Script err)) (sym k.unwritten) (at_refused t' new held err h k.turn)
   at_stop t' new held taken' status.WriteFault h k = cut_here t' new held k.text h k.turn taken' k.written
   at_stop t' new held taken' status.Memory h k = subst (λ (x : Option (List ℕ)). WrotePrefix s before x) (sym k) cut
@@ -179,5 +211,5 @@ module _ (s : Script) (before : List ℕ) (left : Option (List Line)) (taken : O
   at_stop t' new held taken' (status.TooLong line) h k = absurd k
 
   -- an end at the line `end`
-  pub at_ended : (t' : Table) (new : Option (List Line)) (held : List ℕ) (taken' : Option (List ℕ)) → GivesLine left new held (Ok read.Line) → LineGives t t' n held taken taken' (Ok flow.Ended) → Played s before taken' status.Done
+  pub at_ended : (t' : RunState) (new : Option (List Line)) (held : List ℕ) (taken' : Option (List ℕ)) → GivesLine left new held (Ok read.Line) → LineGives t t' n held taken taken' (Ok flow.Ended) → Played s before taken' status.Done
   at_ended t' new held taken' h k = subst (λ (x : Option (List ℕ)). Played s before x status.Done) (sym k.unwritten) (at_done t' new held h k.turn)

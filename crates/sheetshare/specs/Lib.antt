@@ -1,3 +1,4 @@
 pub mod Played
+pub mod Places
 pub mod Exits
 pub mod LineGives

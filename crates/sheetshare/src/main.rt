@@ -24,7 +24,7 @@ fn main(rt: HostRuntime) -> ExitCode {
 
 /// Plays the script on standard input, and prints to standard output, neither with a buffer between.
 fn run_script(rt: &HostRuntime) -> Status {
-    let words = match words(rt) {
+    let words = match words_of(rt) {
         Ok(words) => words,
         Err(status) => return status,
     };
@@ -34,7 +34,7 @@ fn run_script(rt: &HostRuntime) -> Status {
 }
 
 /// The words after the program's name.
-fn words(rt: &HostRuntime) -> Result<Vec<Txt>, Status> {
+fn words_of(rt: &HostRuntime) -> Result<Vec<Txt>, Status> {
     let args = match env::args(rt) {
         Ok(args) => args,
         Err(error) if error.kind() == ErrorKind::OutOfMemory => return Err(Status::Memory),

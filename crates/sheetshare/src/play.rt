@@ -1,30 +1,35 @@
-ghost use Rattle.std.specs.Prelude.{◌≡◌, ◌≢◌, ◌↔◌, ℕ, ◌<◌, ◌≤◌, [], List, true, length, Some, Err, IfOk, IfErr, OnOk, IsErrOf, IfSome, IsSome};
+ghost use Rattle.std.specs.Prelude.{◌≡◌, ◌≢◌, ◌↔◌, ℕ, ◌<◌, ◌≤◌, List, true, length, None, Some, Err, IfOk, IfErr, OnOk, IsErrOf, IfSome, IsSome};
 ghost use Rattle.ss_base.specs.Streams.{Rose};
 ghost use Rattle.script_read.specs.Script.{script};
+ghost use Rattle.words.specs.Calls.{call_in};
+ghost use Rattle.generated_run.specs.Runs.{generated_world};
 ghost use Rattle.script_run.specs.Publishing.{NeverGoesBack};
 ghost use Rattle.script_run.specs.World.{world_after};
 ghost use Rattle.script_run.specs.Rooms.{RoomRepresents};
 ghost use Rattle.script_run.specs.States.{first_table};
 ghost use Rattle.sheetshare.specs.LineGives.{LineGives};
-ghost use Rattle.sheetshare.specs.Played.{Played, status_of};
+ghost use Rattle.sheetshare.specs.Places.{FaultedAt, EndedAt};
+ghost use Rattle.sheetshare.specs.Played.{Played, StopsAs, WroteSummary, RunsToItsEnd, IsUnlessMemory, status_of};
 
+use generated_run::{Loaded, load_summary};
 use script_read::{ScriptErr, ScriptKind};
 use script_run::laws::publishing_never_goes_back;
 use script_run::{Outcome, Room, ScriptState};
 use ss_base::{Failed, LineErr, LineFeed, Memory, Sink, Source, Turn, Txt, write_all};
 use std::alloc::Global;
+use words::{Call, WordsErr, read_words};
 
 /// How a run ended. The program ends with the number of the status, counted from 0 in this order.
 #[derive(Clone, Copy, Debug, PartialEq, Eq)]
 pub enum Status {
-    /// The script was read up to its line `end`, and all was written.
+    /// The script was read up to its line `end`, or the generated run was done, and all was written.
     Done,
     /// A line was refused, or the input ended before `end`.
     Script(ScriptErr),
     ReadFault,
     WriteFault,
     Memory,
-    /// There were words on the command line.
+    /// The words on the command line ask for nothing.
     Usage,
     /// The line with this number is too long.
     TooLong(u32),
@@ -44,43 +49,102 @@ enum Flow {
 pub struct PlayEnd {
     pub status: Status,
     /// The server and the clients as the run left them, one client for each site in the order in which the
-    /// sites were declared: exactly where the script was done.
+    /// sites were declared: exactly where the run was done.
     pub room: Option<Room>,
 }
 
-/// Runs the script that the source gives and writes what it prints to the sink, each line's text before
-/// the next line is read.
+/// Does what the words ask for: without words it runs the script that the source gives, and writes what
+/// that prints to the sink, each line's text before the next line is read; for `load` and a number it
+/// writes the summary of the generated run of that number, and reads nothing.
 pub fn play<S: Source, K: Sink>(
     alloc: Global,
     words: &[Txt],
     source: &mut S,
     sink: &mut K,
 ) -> PlayEnd
-    ensures script { (bytes before : List ℕ) → words.now ≡ [] → S.left source.old ≡ Some bytes → K.taken sink.old ≡ Some before →
+    ensures script { (bytes before : List ℕ) → call_in words.now ≡ Some Call.Script → S.left source.old ≡ Some bytes → K.taken sink.old ≡ Some before →
         Played (script bytes) before (K.taken sink.new) result.status }
     // What is published never goes back.
     ensures published { (bytes : List ℕ) → NeverGoesBack (script bytes).commands }
-    ensures room { (bytes : List ℕ) → S.left source.old ≡ Some bytes → IfSome result.room (RoomRepresents (world_after (script bytes).commands)) }
+    ensures room { (bytes : List ℕ) → call_in words.now ≡ Some Call.Script → S.left source.old ≡ Some bytes →
+        IfSome result.room (RoomRepresents (world_after (script bytes).commands)) }
+    ensures summary { (number : ℕ) (before : List ℕ) → call_in words.now ≡ Some (Call.Load number) → K.taken sink.old ≡ Some before →
+        WroteSummary number before (K.taken sink.new) result.status }
+    ensures loaded_room { (number : ℕ) → call_in words.now ≡ Some (Call.Load number) → IfSome result.room (RoomRepresents (generated_world number)) }
     ensures done { IsSome result.room ↔ (result.status ≡ Status.Done) }
-    ensures usage { (result.status ≡ Status.Usage) ↔ (words.now ≢ []) }
-    ensures unread { result.status ≡ Status.Usage → source.new ≡ source.old }
-    ensures unwritten { result.status ≡ Status.Usage → sink.new ≡ sink.old }
+    ensures usage { result.status ≡ Status.Usage → call_in words.now ≡ None }
+    ensures refused { call_in words.now ≡ None → IsUnlessMemory Status.Usage result.status }
+    ensures complete { RunsToItsEnd (call_in words.now) (S.left source.old) → ¬ (Rose (S.faults source.old) (S.faults source.new)) → ¬ (Rose (K.faults sink.old) (K.faults sink.new)) →
+        IsUnlessMemory Status.Done result.status }
+    ensures read_place { (bytes left before : List ℕ) → call_in words.now ≡ Some Call.Script → S.left source.old ≡ Some bytes → S.left source.new ≡ Some left →
+        K.taken sink.old ≡ Some before → result.status ≡ Status.ReadFault → FaultedAt bytes left before (K.taken sink.new) }
+    ensures end_place { (bytes left : List ℕ) → call_in words.now ≡ Some Call.Script → S.left source.old ≡ Some bytes → S.left source.new ≡ Some left →
+        result.status ≡ Status.Done → EndedAt bytes left }
+    ensures unread { call_in words.now ≢ Some Call.Script → source.new ≡ source.old }
+    ensures unwritten { call_in words.now ≡ None → sink.new ≡ sink.old }
     ensures read { result.status ≡ Status.ReadFault → Rose (S.faults source.old) (S.faults source.new) }
     ensures write { result.status ≡ Status.WriteFault → Rose (K.faults sink.old) (K.faults sink.new) }
 {
     publishing_never_goes_back();
-    if !words.is_empty() {
-        return PlayEnd {
-            status: Status::Usage,
-            room: None,
-        };
-    }
-    match play_lines(alloc, source, sink) {
+    match play_call(alloc, words, source, sink) {
         Ok(room) => PlayEnd {
             status: Status::Done,
             room: Some(room),
         },
         Err(status) => PlayEnd { status, room: None },
+    }
+}
+
+/// Does what the words ask for, and gives the room or the status of another end.
+fn play_call<S: Source, K: Sink>(
+    alloc: Global,
+    words: &[Txt],
+    source: &mut S,
+    sink: &mut K,
+) -> Result<Room, Status>
+    ensures script { (bytes before : List ℕ) → call_in words.now ≡ Some Call.Script → S.left source.old ≡ Some bytes → K.taken sink.old ≡ Some before →
+        Played (script bytes) before (K.taken sink.new) (status_of result) }
+    ensures room { (bytes : List ℕ) → call_in words.now ≡ Some Call.Script → S.left source.old ≡ Some bytes →
+        IfOk result (RoomRepresents (world_after (script bytes).commands)) }
+    ensures summary { (number : ℕ) (before : List ℕ) → call_in words.now ≡ Some (Call.Load number) → K.taken sink.old ≡ Some before →
+        WroteSummary number before (K.taken sink.new) (status_of result) }
+    ensures loaded_room { (number : ℕ) → call_in words.now ≡ Some (Call.Load number) → IfOk result (RoomRepresents (generated_world number)) }
+    ensures undone { IfErr result (λ s. s ≢ Status.Done) }
+    ensures usage { IsErrOf result Status.Usage → call_in words.now ≡ None }
+    ensures refused { call_in words.now ≡ None → IsUnlessMemory Status.Usage (status_of result) }
+    ensures complete { RunsToItsEnd (call_in words.now) (S.left source.old) → ¬ (Rose (S.faults source.old) (S.faults source.new)) → ¬ (Rose (K.faults sink.old) (K.faults sink.new)) →
+        IsUnlessMemory Status.Done (status_of result) }
+    ensures read_place { (bytes left before : List ℕ) → call_in words.now ≡ Some Call.Script → S.left source.old ≡ Some bytes → S.left source.new ≡ Some left →
+        K.taken sink.old ≡ Some before → IsErrOf result Status.ReadFault → FaultedAt bytes left before (K.taken sink.new) }
+    ensures end_place { (bytes left : List ℕ) → call_in words.now ≡ Some Call.Script → S.left source.old ≡ Some bytes → S.left source.new ≡ Some left → OnOk result (EndedAt bytes left) }
+    ensures unread { call_in words.now ≢ Some Call.Script → source.new ≡ source.old }
+    ensures unwritten { call_in words.now ≡ None → sink.new ≡ sink.old }
+    ensures read { IsErrOf result Status.ReadFault → Rose (S.faults source.old) (S.faults source.new) }
+    ensures write { IsErrOf result Status.WriteFault → Rose (K.faults sink.old) (K.faults sink.new) }
+{
+    match read_words(alloc, words) {
+        Ok(Call::Script) => play_lines(alloc, source, sink),
+        Ok(Call::Load(number)) => print_summary(alloc, number, sink),
+        Err(WordsErr::Usage) => Err(Status::Usage),
+        Err(WordsErr::Memory) => Err(Status::Memory),
+    }
+}
+
+/// Writes the summary of the generated run of a number, and gives its room or the status of another end.
+fn print_summary<K: Sink>(alloc: Global, number: u64, sink: &mut K) -> Result<Room, Status>
+    ensures summary { (before : List ℕ) → K.taken sink.old ≡ Some before → WroteSummary number before (K.taken sink.new) (status_of result) }
+    ensures room { IfOk result (RoomRepresents (generated_world number)) }
+    ensures other { IfErr result (λ s. (s ≢ Status.Done) × (s ≢ Status.Usage) × (s ≢ Status.ReadFault)) }
+    ensures complete { ¬ (Rose (K.faults sink.old) (K.faults sink.new)) → IsUnlessMemory Status.Done (status_of result) }
+    ensures write { IsErrOf result Status.WriteFault → Rose (K.faults sink.old) (K.faults sink.new) }
+{
+    let Loaded { summary, room } = match load_summary(alloc, number) {
+        Ok(loaded) => loaded,
+        Err(Memory) => return Err(Status::Memory),
+    };
+    match write_all(sink, summary.bytes()) {
+        Ok(()) => Ok(room),
+        Err(Failed) => Err(Status::WriteFault),
     }
 }
 
@@ -92,6 +156,10 @@ fn play_lines<S: Source, K: Sink>(
 ) -> Result<Room, Status>
     ensures text { (bytes before : List ℕ) → S.left source.old ≡ Some bytes → K.taken sink.old ≡ Some before →
         Played (script bytes) before (K.taken sink.new) (status_of result) }
+    ensures read_place { (bytes left before : List ℕ) → S.left source.old ≡ Some bytes → S.left source.new ≡ Some left → K.taken sink.old ≡ Some before →
+        IsErrOf result Status.ReadFault → FaultedAt bytes left before (K.taken sink.new) }
+    ensures end_place { (bytes left : List ℕ) → S.left source.old ≡ Some bytes → S.left source.new ≡ Some left → OnOk result (EndedAt bytes left) }
+    ensures stop { (bytes : List ℕ) → S.left source.old ≡ Some bytes → StopsAs (script bytes).stop (status_of result) }
     ensures room { (bytes : List ℕ) → S.left source.old ≡ Some bytes → IfOk result (RoomRepresents (world_after (script bytes).commands)) }
     ensures other { IfErr result (λ s. (s ≢ Status.Done) × (s ≢ Status.Usage)) }
     ensures read { IsErrOf result Status.ReadFault → Rose (S.faults source.old) (S.faults source.new) }
@@ -114,6 +182,10 @@ fn play_each<S: Source, K: Sink>(
     requires { state.old ≡ first_table }
     ensures text { (bytes before : List ℕ) → S.left source.old ≡ Some bytes → K.taken sink.old ≡ Some before →
         Played (script bytes) before (K.taken sink.new) (status_of result) }
+    ensures read_place { (bytes left before : List ℕ) → S.left source.old ≡ Some bytes → S.left source.new ≡ Some left → K.taken sink.old ≡ Some before →
+        IsErrOf result Status.ReadFault → FaultedAt bytes left before (K.taken sink.new) }
+    ensures end_place { (bytes left : List ℕ) → S.left source.old ≡ Some bytes → S.left source.new ≡ Some left → OnOk result (EndedAt bytes left) }
+    ensures stop { (bytes : List ℕ) → S.left source.old ≡ Some bytes → StopsAs (script bytes).stop (status_of result) }
     ensures world { (bytes : List ℕ) → S.left source.old ≡ Some bytes → OnOk result (state.new.world ≡ world_after (script bytes).commands) }
     ensures opened { OnOk result (state.new.declared.sheet ≡ true) }
     ensures other { IfErr result (λ s. (s ≢ Status.Done) × (s ≢ Status.Usage)) }

@@ -79,6 +79,24 @@ fn keeps_what_was_written_before_a_read_fails(rt: HostRuntime) -> Result<(), Fai
     Ok(())
 }
 
+/// The script is whole from the last letter of its `end` on.
+#[test]
+fn stops_where_the_script_is_cut(rt: HostRuntime) -> Result<(), Fail> {
+    let bytes = script(rt.alloc(), 0)?;
+    for cut in 0..=bytes.len() {
+        let (answer, sink) = played(rt.alloc(), &bytes.as_slice()[..cut], &[], &[])?;
+        let whole = cut + 1 >= bytes.len();
+        assert_eq!(rt; answer == Status::Done, whole, "cut after {cut} bytes");
+        assert_eq!(rt;
+            matches!(answer, Status::Script(_)),
+            !whole,
+            "cut after {cut} bytes"
+        );
+        assert!(rt; ALL.starts_with(sink.bytes()), "cut after {cut} bytes");
+    }
+    Ok(())
+}
+
 #[test]
 fn texts_of_statuses(rt: HostRuntime) -> Result<(), Fail> {
     let refused = |line, kind| Status::Script(ScriptErr { line, kind });

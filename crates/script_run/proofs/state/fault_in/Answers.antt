@@ -6,7 +6,7 @@ use Rattle.script_read.specs.declared.command.Command.{Command}
 use Rattle.script_read.specs.declared.command.Command.TheVariants as command
 use Rattle.script_read.specs.declared.script.ScriptKind.{ScriptKind}
 use Rattle.script_read.specs.Script.{Declared, without_site, fault_of}
-use Rattle.script_run.specs.States.{table_of}
+use Rattle.script_run.specs.States.{run_state_of}
 use Rattle.script_run.proofs.state.fault_in.Goals as goal
 
 -- each command that names a site
@@ -20,4 +20,4 @@ by_kind d c name x h (inr (inr (inr (inr (inl (range, is)))))) = h ∙ ap (fault
 by_kind d c name x h (inr (inr (inr (inr (inr is))))) = h ∙ ap (fault_of d) (sym is)
 
 pub returns-in-Edit : goal.returns-in-Edit
-returns-in-Edit c = by_kind (table_of (Some c.args.run.now) c.args.closed).declared c.args.command.now _ _ (c.site_missing.ensures c.args.closed) c.in-Edit.is
+returns-in-Edit c = by_kind (run_state_of (Some c.args.run.now) c.args.closed).declared c.args.command.now _ _ (c.site_missing.ensures c.args.closed) c.in-Edit.is

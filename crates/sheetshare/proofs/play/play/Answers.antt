@@ -1,9 +1,6 @@
 use Rattle.script_read.specs.Script.{script}
 use Rattle.sheetshare.proofs.play.play.Goals as goal
 
-pub returns-then-not-is_empty-clause-published : goal.returns-then-not-is_empty-clause-published
-returns-then-not-is_empty-clause-published g c bytes = c.publishing_never_goes_back.ensures (script bytes).commands
-
 pub returns-in-Ok-clause-published : goal.returns-in-Ok-clause-published
 returns-in-Ok-clause-published g c bytes = c.publishing_never_goes_back.ensures (script bytes).commands
 

@@ -1,8 +1,10 @@
-use Rattle.std.proofs.Common.{◌≡◌, ◌<◌, ◌++◌, ◌∷◌, [], List, length, ap, sym, ◌∙◌, subst, arith}
+use Rattle.std.proofs.Common.{◌<◌, ◌++◌, ◌∷◌, [], ℕ, List, length, ap, sym, ◌∙◌, subst, arith}
 use Rattle.sheet_ops.specs.Represents.{ClientState, ServerState}
 use Rattle.script_run.specs.declared.seat.Seat.{Seat}
 use Rattle.script_run.specs.Runs.{IsRun}
+use Rattle.script_run.specs.Places.{AreFound}
 use Rattle.script_run.specs.World.{World, new_seat}
+use Rattle.script_run.proofs.Named.{found_more}
 use Rattle.script_run.proofs.Edited.{added_run}
 use Rattle.script_run.proofs.run.Run.add_site.Goals as goal
 
@@ -17,11 +19,13 @@ invariant_of-self-2 c =
     let run = added_run _ _ _ c.self.invariant.run none few c.args.name.now
     c.in_ok-server.server (ap (λ (v : ServerState). v.size) server) (omega (arith, ap (λ (v : ServerState). v.sites) server, c.len.ensures)) c.in_ok-server.ensures.represents
     c.in_ok-client.client (omega (arith, ap (λ (k : ClientState). k.site) new, c.len.ensures)) (ap (λ (k : ClientState). k.size) new) (ap (λ (k : ClientState). k.taken) new) c.in_ok-client.ensures.represents in
-    let seats_are : c.push_reserved.new.self.items ≡ seats ++ new_seat c.args.name.now ∷ [] =
-    c.push_reserved.ensures.items ∙ (λ i. c.in_ok-reserve.ensures.items i ++ record { name = c.in_ok-name.ensures i; made = c.new-3.ensures i; pushed = 0; taken = 0; read = 0 } ∷ []) in
-    let clients_are : c.push.new.self.items ≡ clients ++ c.in_ok-client.client ∷ [] = c.in_ok-push.ensures.items in
+    let seats_are = c.in_ok-add_seat.ensures.seats in
+    let clients_are = c.in_ok-add_seat.ensures.clients in
     record {
-      run = subst (λ (ss : List Seat). IsRun (record { size = c.self.inside.size; history = c.self.inside.history.items; published = c.self.inside.published.length; seats = ss }) c.self.inside.effects.items (record { server = c.in_ok-server.server; clients = c.push.new.self.items })) (sym seats_are)
+      run = subst (λ (ss : List Seat). IsRun (record { size = c.self.inside.size; history = c.self.inside.history.items; published = c.self.inside.published.length; seats = ss }) c.self.inside.effects.items (record { server = c.in_ok-server.server; clients = c.add_seat.new.clients.items })) (sym seats_are)
           (subst (λ (ks : List ClientState). IsRun (record { size = c.self.inside.size; history = c.self.inside.history.items; published = c.self.inside.published.length; seats = seats ++ new_seat c.args.name.now ∷ [] }) c.self.inside.effects.items (record { server = c.in_ok-server.server; clients = ks })) (sym clients_are) run);
       published = c.self.invariant.published;
+      names = subst (λ (ss : List Seat). AreFound ss c.add_seat.new.places) (sym seats_are)
+          (subst (λ (ps : List (List ℕ × ℕ)). AreFound (seats ++ new_seat c.args.name.now ∷ []) ps) (sym c.in_ok-add_seat.ensures.places)
+          (found_more seats c.self.inside.places c.self.invariant.names c.args.name.now));
     }

@@ -5,8 +5,9 @@ use Rattle.sheet_ops.specs.declared.operation.Intent.{Intent}
 use Rattle.sheet_ops.specs.History.{own_entries}
 use Rattle.script_run.specs.World.{World, decided, after_decided}
 use Rattle.script_run.proofs.Outcomes.{if_err}
+use Rattle.script_run.proofs.Named.{found_again}
 use Rattle.script_run.proofs.Standing.{front, holds, stands, valid}
-use Rattle.script_run.proofs.Edited.{decided_here, edited_run, edited_world}
+use Rattle.script_run.proofs.Edited.{issued_name, decided_here, edited_run, edited_world}
 use Rattle.script_run.proofs.run.Run.edit.Goals as goal
 use Rattle.script_run.proofs.run.Run.edit.Goals.{After-index_mut-client}
 
@@ -31,6 +32,9 @@ invariant_of-self c =
           (subst (λ n. IsPrefixOf (own_entries n c.self.inside.history.items) s.made) (sym known.number) (front _ _ _ c.self.invariant.run c.args.place (place_here at) s c.index_mut-seat.ensures.value)))
           c.issue.ensures.err;
       published = c.self.invariant.published;
+      names =
+          found_again c.self.inside.seats.items c.self.inside.places c.self.invariant.names c.args.place s c.issue.new.seat c.index_mut-seat.ensures.value
+          (issued_name c.site_at-site.result c.args.edit.now s c.issue.new.seat k c.issue.new.client c.issue.result c.issue.ensures.ok c.issue.ensures.err);
     }
 
 pub returns-clause-ok : goal.returns-clause-ok

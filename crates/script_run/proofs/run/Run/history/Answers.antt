@@ -9,7 +9,7 @@ use Rattle.script_run.proofs.Histories.{entries_short}
 use Rattle.script_run.proofs.run.Run.history.Goals as goal
 
 pub history_lines-requires : goal.history_lines-requires
-history_lines-requires c = subst (λ (es : List Entry). All (λ e. IntentWithin 16000 e.intent) es) (sym c.as_slice-3.ensures.value) (entries_short _ _ _ _ c.self.invariant)
+history_lines-requires c = subst (λ (es : List Entry). All (λ e. IntentWithin 16000 e.intent) es) (sym c.as_slice-3.ensures.value) (entries_short _ _ _ _ _ c.self.invariant)
 
 pub returns : goal.returns
 returns c =

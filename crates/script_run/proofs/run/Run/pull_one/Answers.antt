@@ -1,4 +1,4 @@
-use Rattle.std.proofs.Common.{◌≡◌, ◌<◌, suc, List, arith, sym, subst, length}
+use Rattle.std.proofs.Common.{◌≡◌, ◌<◌, ◌+◌, refl, suc, List, arith, sym, subst, length}
 use Rattle.ss_base.specs.Lists.{IsPrefixOf}
 use Rattle.sheet_ops.specs.declared.operation.Entry.{Entry}
 use Rattle.sheet_ops.specs.declared.operation.Effect.{Effect}
@@ -6,7 +6,8 @@ use Rattle.sheet_ops.specs.History.{own_entries}
 use Rattle.sheet_ops.specs.Represents.{ClientRepresents}
 use Rattle.script_run.specs.declared.seat.Seat.{Seat}
 use Rattle.script_run.specs.World.{World, seat_at}
-use Rattle.script_run.specs.Deliveries.{MayTake}
+use Rattle.script_run.specs.Deliveries.{MayPull}
+use Rattle.script_run.proofs.Named.{found_again}
 use Rattle.script_run.proofs.Standing.{short, seat_is, front, stands, may_take, took}
 use Rattle.script_run.proofs.run.Run.pull_one.Goals as goal
 use Rattle.script_run.proofs.run.Run.pull_one.Goals.{After-index_mut-seat}
@@ -26,8 +27,8 @@ module _ (c : After-index_mut-seat) where
 pub deliver-requires : goal.deliver-requires
 deliver-requires c =
     let at = (goal.at.deliver-requires c).After-index_mut-seat in
-    subst (λ (H : List Entry). MayTake c.index_mut-client.result.now c.site_at-site.result.0 H c.as_slice-effects.result.now) (sym c.as_slice-history.ensures.value)
-    (subst (λ (es : List Effect). MayTake c.index_mut-client.result.now c.site_at-site.result.0 c.self.inside.history.items es) (sym c.as_slice-effects.ensures.value)
+    subst (λ (H : List Entry). MayPull c.index_mut-client.result.now c.site_at-site.result.0 H c.as_slice-effects.result.now) (sym c.as_slice-history.ensures.value)
+    (subst (λ (es : List Effect). MayPull c.index_mut-client.result.now c.site_at-site.result.0 c.self.inside.history.items es) (sym c.as_slice-effects.ensures.value)
     (may_take _ _ _ c.self.invariant.run c.args.place (place_here at) c.index_mut-seat.result.now c.index_mut-seat.ensures.value c.index_mut-client.result.now c.index_mut-client.ensures.value
     c.site_at-site.result.0 (site_here at) (more_here at)))
 
@@ -50,4 +51,5 @@ invariant_of-self-2 c =
       run = took _ _ _ c.self.invariant.run c.args.place (place_here at) s c.index_mut-seat.ensures.value k c.index_mut-client.ensures.value
           c.deliver.new.client c.in_ok-deliver.ensures.counts.0 c.in_ok-deliver.ensures.counts.1 c.in_ok-deliver.ensures.counts.2 (represents known.represents first) (more_here at);
       published = c.self.invariant.published;
+      names = found_again c.self.inside.seats.items c.self.inside.places c.self.invariant.names c.args.place s (record s { taken = s.taken + 1 }) c.index_mut-seat.ensures.value refl;
     }

@@ -1,4 +1,4 @@
-use Rattle.std.proofs.Common.{◌≡◌, ◌<◌, ◌+◌, List, [], ◌∷◌, ◌++◌, arith, sym, ◌∙◌, ap, subst, length, Some}
+use Rattle.std.proofs.Common.{◌≡◌, ◌<◌, ◌+◌, List, [], ◌∷◌, ◌++◌, arith, refl, sym, ◌∙◌, ap, subst, length, Some}
 use Rattle.std.specs.Prelude.{slice_set}
 use Rattle.sheet_ops.specs.declared.operation.Entry.{Entry}
 use Rattle.sheet_ops.specs.declared.operation.Effect.{Effect}
@@ -8,6 +8,7 @@ use Rattle.script_run.specs.declared.seat.Seat.{Seat}
 use Rattle.script_run.specs.Runs.{RunStands}
 use Rattle.script_run.specs.World.{World, seat_at, pushed}
 use Rattle.script_run.proofs.Fronts.{published_later}
+use Rattle.script_run.proofs.Named.{found_again}
 use Rattle.script_run.proofs.Standing.{holds, seat_is, may_submit, pushed_run, pushed_world}
 use Rattle.script_run.proofs.run.Run.push_one.Goals as goal
 use Rattle.script_run.proofs.run.Run.push_one.Goals.{After-index_mut-seat, After-push_reserved-2}
@@ -48,12 +49,13 @@ invariant_of-self-2 c =
     let seats : List Seat = slice_set c.self.inside.seats.items c.args.place (record s { pushed = s.pushed + 1 }) in
     let room : Room = record { server = c.hand_in.new.server; clients = c.self.inside.clients.items } in
     let published = c.self.inside.published in
-    subst (λ (H : List Entry). RunStands (record { size = c.self.inside.size; history = H; published = published.length; seats = seats }) c.push_reserved-2.new.self.items room published) (sym (history_is after))
-    (subst (λ (es : List Effect). RunStands (record { size = c.self.inside.size; history = c.self.inside.history.items ++ c.in_ok-entry.entry ∷ []; published = published.length; seats = seats }) es room published) (sym (effects_are after)) (record {
+    subst (λ (H : List Entry). RunStands (record { size = c.self.inside.size; history = H; published = published.length; seats = seats }) c.push_reserved-2.new.self.items room published c.self.inside.places) (sym (history_is after))
+    (subst (λ (es : List Effect). RunStands (record { size = c.self.inside.size; history = c.self.inside.history.items ++ c.in_ok-entry.entry ∷ []; published = published.length; seats = seats }) es room published c.self.inside.places) (sym (effects_are after)) (record {
       run = pushed_run _ _ _ c.self.invariant.run c.args.place (place_here at) s c.index_mut-seat.ensures.value c.in_ok-entry.entry c.in_ok-entry.ensures.next
           c.hand_in.new.server c.in_ok-entry.ensures.counts.0 c.in_ok-entry.ensures.counts.1 (c.in_ok-entry.ensures.represents c.self.inside.history.items c.self.invariant.run.room.server)
           c.in_ok-entry.effect (c.in_ok-entry.ensures.effect c.self.inside.history.items c.self.invariant.run.room.server);
       published = published_later c.self.inside.size c.self.inside.history.items (c.in_ok-entry.entry ∷ []) published c.self.invariant.published;
+      names = found_again c.self.inside.seats.items c.self.inside.places c.self.invariant.names c.args.place s (record s { pushed = s.pushed + 1 }) c.index_mut-seat.ensures.value refl;
     }))
 
 pub returns-clause-ok : goal.returns-clause-ok

@@ -7,8 +7,8 @@ use Rattle.script_run.proofs.run.Run.values.Goals as goal
 
 pub returns-clause-text : goal.returns-clause-text
 returns-clause-text c =
-    if_ok c.all_text.result (λ t e. e ∙ (all_printed _ _ _ _ c.self.invariant refl ∙ ap (λ (w : World). all_text w.published (published_values w)) c.self.view_is))
-    (c.all_text.ensures.text _ (formed _ _ _ _ c.self.invariant) c.self.invariant.published.is)
+    if_ok c.all_text.result (λ t e. e ∙ (all_printed _ _ _ _ _ c.self.invariant refl ∙ ap (λ (w : World). all_text w.published (published_values w)) c.self.view_is))
+    (c.all_text.ensures.text _ (formed _ _ _ _ _ c.self.invariant) c.self.invariant.published.is)
 
 pub returns-clause-same : goal.returns-clause-same
 returns-clause-same c =
@@ -17,4 +17,4 @@ returns-clause-same c =
 
 pub invariant_of-self : goal.invariant_of-self
 invariant_of-self c =
-    evaluated_run _ _ _ _ c.self.invariant c.all_text.new.self c.all_text.ensures.length (c.all_text.ensures.stays _ (formed _ _ _ _ c.self.invariant) c.self.invariant.published.is)
+    evaluated_run _ _ _ _ _ c.self.invariant c.all_text.new.self c.all_text.ensures.length (c.all_text.ensures.stays _ (formed _ _ _ _ _ c.self.invariant) c.self.invariant.published.is)

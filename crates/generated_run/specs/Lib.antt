@@ -1,0 +1,6 @@
+pub mod Generator
+pub mod Turns
+pub mod Runs
+pub mod Tallies
+pub mod Summary
+pub mod Sameness

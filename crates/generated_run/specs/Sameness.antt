@@ -1,0 +1,14 @@
+-- When two sheets of one size by positions have the same marks, and the same in their cells.
+use Rattle.std.specs.Prelude.{ℕ, ◌≡◌, ◌<◌, length}
+use Rattle.sheet_ops.specs.Placed.{PlacedSheet, cell_at}
+
+abbrev pub SameMarks : PlacedSheet → PlacedSheet → Type 0
+SameMarks P Q = (P.rows ≡ Q.rows) × (P.cols ≡ Q.cols)
+
+-- in one row
+abbrev pub SameRow : PlacedSheet → PlacedSheet → ℕ → Type 0
+SameRow P Q row = (col : ℕ) → col < length P.cols → cell_at P row col ≡ cell_at Q row col
+
+-- in every row
+abbrev pub SameCells : PlacedSheet → PlacedSheet → Type 0
+SameCells P Q = (row : ℕ) → row < length P.rows → SameRow P Q row

@@ -1,9 +1,0 @@
-use Rattle.std.proofs.Common.{◌∙◌}
-use Rattle.script_run.specs.Transcript.{all_text}
-use Rattle.script_run.proofs.Outcomes.{if_ok}
-use Rattle.script_run.proofs.published.Published.all_text.Goals as goal
-
-pub returns-clause-text : goal.returns-clause-text
-returns-clause-text c X formed is =
-    let table = (c.evaluate.ensures.stays X formed is).values c.in_ok-evaluate.ensures.current in
-    if_ok c.all_text.result (λ t e. e ∙ (λ i. all_text (c.evaluate.ensures.length i) (table i))) c.all_text.ensures
