@@ -1,0 +1,6 @@
+pub mod Histories
+pub mod Ranges
+pub mod Effects
+pub mod Lasts
+pub mod Causes
+pub mod Sends

@@ -1,0 +1,3 @@
+pub mod BookEntries
+pub mod Messages
+pub mod Hubs
