@@ -2,7 +2,7 @@
 use Rattle.std.proofs.Common.{◌≡◌, ℕ, zero, suc, ◌+◌, ◌-◌, ◌<◌, ◌≤◌, Bool, true, false, cond, List, [], ◌∷◌, ◌++◌, length, take, drop, get_or, refl, ap, sym, ◌∙◌, subst, arith, append_assoc, inl, inr}
 use Rattle.std.specs.Prelude.{◌⊎◌, ◌^◌, min, if◌then◌else◌, nat_eq, reverse, slice_index_or, unwrap_or}
 use Rattle.std.proofs.Math.Nat.{min-eq_left}
-use Rattle.std.proofs.lemmas.List.{reverse-append, length-append, length-map, length-take-le, length-reverse, reverse-reverse, take_at}
+use Rattle.std.proofs.lemmas.List.{reverse-append, length-append, length-take-le, length-reverse, reverse-reverse, take_at}
 use Rattle.ss_base.specs.declared.types.Size.{Size}
 use Rattle.ss_base.specs.Lists.{IsPrefixOf}
 use Rattle.sheet_ops.specs.declared.operation.Entry.{Entry}
@@ -29,8 +29,7 @@ use Rattle.sheet_ops.proofs.Views.{IsFresh, known_to, views_fresh, rises_later, 
 use Rattle.sheet_ops.proofs.Histories.{view_of-held, site_positive}
 use Rattle.sheet_ops.proofs.Served.{rises_at}
 use Rattle.sheet_ops.proofs.Prefixes.{split_at, take_suc, own_held, own_prefix}
-use Rattle.sheet_ops.proofs.Sizes.{grows}
-use Rattle.sheet_ops.proofs.Sizes.{effect_none}
+use Rattle.sheet_ops.proofs.Sizes.{size_placed, grows, effect_none}
 use Rattle.sheet_ops.proofs.Published.{v, valid_before, seen_within, seen_later, sheet_here, effect_here, leads_here, published_leads}
 use Rattle.sheet_ops.proofs.Acknowledged.{view_stays, pending_stays, seen_same, count, held}
 use Rattle.sheet_ops.proofs.Taken.{EachSound, taken_other, edited}
@@ -41,9 +40,6 @@ use Rattle.jup_client.proofs.Causes.{admitted_own, admitted_other}
 use Rattle.jup_client.proofs.OnePassed.{fits_more, sized_more}
 
 -- ---- an edit
-pub size_placed : (X : IdSheet) → placed_size (placed X) ≡ size_of X
-size_placed X = λ i. record { rows = length-map X.rows.lines (λ l. X.rows.dead l.rec) i; cols = length-map X.cols.lines (λ l. X.cols.dead l.rec) i }
-
 module _ (c : ClientState) (sites : ℕ) (H G : List Entry) (pos : 0 < c.site) (valid : IsValidHistory c.size sites H) (r : ClientRepresents c H G) where
   abbrev here : IdSheet
   here = view c.size H c.site c.taken G

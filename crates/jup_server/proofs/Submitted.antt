@@ -1,8 +1,8 @@
 -- What a server represents after an operation.
 use Rattle.std.proofs.Common.{◌≡◌, ◌≢◌, ℕ, zero, suc, ◌+◌, ◌-◌, ◌<◌, ◌≤◌, Bool, true, false, List, [], ◌∷◌, ◌++◌, length, take, drop, get_or, set, map, refl, ap, sym, ◌∙◌, subst, arith, inl, inr, Option, None, Some, Ok, Err}
-use Rattle.std.specs.Prelude.{◌⊎◌, nat_eq, nat_le, reverse, replicate, slice_index_or, slice_set, Result, OnErr}
+use Rattle.std.specs.Prelude.{◌⊎◌, nat_eq, reverse, replicate, slice_index_or, slice_set, Result, OnErr}
 use Rattle.std.proofs.lemmas.Bool.Decides.{nat_tests}
-use Rattle.std.proofs.lemmas.List.{length-map, length-set, get_or-set_same, get_or-set_other, length-append, take_all, append-nil, take_at, get_or_default, length-replicate}
+use Rattle.std.proofs.lemmas.List.{length-set, get_or-set_same, get_or-set_other, length-append, take_all, append-nil, take_at, get_or_default, length-replicate}
 use Rattle.ss_base.specs.declared.types.Size.{Size}
 use Rattle.sheet_ops.specs.declared.operation.Entry.{Entry}
 use Rattle.sheet_ops.specs.declared.operation.Intent.{Intent}
@@ -19,7 +19,8 @@ use Rattle.sheet_ops.specs.Represents.{view_at, last_seen, ids_at, is_own, LinkS
 use Rattle.sheet_ops.specs.Published.{effect_at}
 use Rattle.sheet_ops.proofs.Ids.{length-opening_lines}
 use Rattle.sheet_ops.proofs.Again.{own_effect_fits}
-use Rattle.sheet_ops.proofs.Views.{known_after}
+use Rattle.sheet_ops.proofs.Beginnings.{unknown}
+use Rattle.sheet_ops.proofs.Sizes.{size_placed}
 use Rattle.sheet_ops.proofs.Chains.{sizes_dropped}
 use Rattle.sheet_ops.proofs.Histories.{view_whole}
 use Rattle.sheet_ops.proofs.Served.{end_of-length, sheet_fresh, valid_next, served_own, served_sheet, served_other}
@@ -73,7 +74,7 @@ module _ (s : ServerState) (H : List Entry) (r : ServerRepresents s H) (rows : s
   short = let h = valid_few s.size s.sites H r.valid in omega (arith, h, few)
 
   pub sheet_size : placed_size s.sheet ≡ size_of (sheet_of s.size H)
-  sheet_size = ap placed_size r.sheet ∙ (λ i. record { rows = length-map (sheet_of s.size H).rows.lines (λ l. (sheet_of s.size H).rows.dead l.rec) i; cols = length-map (sheet_of s.size H).cols.lines (λ l. (sheet_of s.size H).cols.dead l.rec) i })
+  sheet_size = ap placed_size r.sheet ∙ size_placed (sheet_of s.size H)
 
   module _ (site : ℕ) (from : 0 < site) (to : site ≤ s.sites) where
     abbrev l : LinkState
@@ -157,15 +158,6 @@ module _ (s : ServerState) (H : List Entry) (r : ServerRepresents s H) (rows : s
       own_new =
           let fresh = sheet_fresh s.size s.sites H r.valid in
           (fresh.formed, each_new (sheet_of s.size H) site (suc (operations (own_entries site H))) (operations_of op) (λ n low. fresh.new (operation_id site n) (unknown site H from n low)))
-        where
-          too_many : (n m : ℕ) → suc m ≤ n → nat_le n m ≡ false
-          too_many n m h = grind (arith, nat_tests)
-
-          not_zero : (n : ℕ) → 0 < n → nat_eq n 0 ≡ false
-          not_zero n h = grind (arith, nat_tests)
-
-          unknown : (site : ℕ) (es : List Entry) → 0 < site → (n : ℕ) → suc (operations (own_entries site es)) ≤ n → known_after es (operation_id site n) ≡ false
-          unknown site es h n low = rw (not_zero site h) (too_many n (operations (own_entries site es)) low)
 
       links_after : (i : ℕ) → i < length (slice_set (links_sent 0 (site - 1) (effect_of_intent last) s.links) (site - 1) m) → LinkRepresents s.size after (1 + i) (slice_index_or (slice_set (links_sent 0 (site - 1) (effect_of_intent last) s.links) (site - 1) m) i no_link)
       links_after i h = by_site (same_or_not i (site - 1))

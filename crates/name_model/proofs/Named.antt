@@ -1,7 +1,6 @@
 -- Both ways round by identity, for own operations in turn.
 use Rattle.std.proofs.Common.{◌≡◌, ℕ, zero, suc, ◌<◌, ◌≤◌, true, false, List, [], ◌∷◌, ◌++◌, length, refl, ap, sym, ◌∙◌, subst, arith, append_assoc}
 use Rattle.std.specs.Prelude.{◌&&◌, nat_eq}
-use Rattle.std.proofs.lemmas.List.{length-map}
 use Rattle.std.proofs.lemmas.Bool.Decides.{nat_tests}
 use Rattle.ss_base.specs.declared.types.Size.{Size}
 use Rattle.sheet_ops.specs.declared.operation.Effect.{Effect}
@@ -21,6 +20,7 @@ use Rattle.sheet_ops.proofs.Chains.{size_of-step}
 use Rattle.sheet_ops.proofs.Convergence.{converges, one_in, new_for}
 use Rattle.sheet_ops.proofs.Names.{EachNew-append, EachNew-behind, first_new, each_new}
 use Rattle.sheet_ops.proofs.Published.{effect_fits_again}
+use Rattle.sheet_ops.proofs.Sizes.{size_placed}
 use Rattle.name_model.proofs.StayNew.{others_behind, others_front, others_both, others_before, differ_without, act_formed, act_new, step_formed, act_each_new, step_each_new}
 use Rattle.name_model.specs.InTurn.{brought_each, locate_each, EachFitsInTurn, size_past_each, own_each_past, other_past_each, StepsEach}
 use Rattle.name_model.specs.Laws.{IsByIdentity, IsWhole}
@@ -139,17 +139,14 @@ each_meets (N ∷ Ns) (c ∷ cs) X s e ids ok sized located fits effect many new
     }
 
 -- ---- the laws
-size_placed : (X : IdSheet) (P : PlacedSheet) → placed X ≡ P → size_of X ≡ placed_size P
-size_placed X P is = sym (marked X) ∙ ap placed_size is
-  where
-    marked : (X : IdSheet) → placed_size (placed X) ≡ size_of X
-    marked X = λ i. record { rows = length-map X.rows.lines (λ l. X.rows.dead l.rec) i; cols = length-map X.cols.lines (λ l. X.cols.dead l.rec) i }
+size_is : (X : IdSheet) (P : PlacedSheet) → placed X ≡ P → size_of X ≡ placed_size P
+size_is X P is = sym (size_placed X) ∙ ap placed_size is
 
 module _ (P : PlacedSheet) (own : List Intent) (other : Effect) (fits : EachFitsInTurn (placed_size P) own) (effect : EffectFits (placed_size P) other) where
   -- the effect first
   pub left_by_identity : (R Q : PlacedSheet) → StepsTo P other R → StepsEach R (own_each_past (placed_size P) own other) Q → IsByIdentity P own other Q
   left_by_identity R Q first steps X Ns ids ok is located many new =
-      let sized = size_placed X P is in
+      let sized = size_is X P is in
       let meets = each_meets Ns own X (placed_size P) other ids ok sized located fits effect many new in
       let effect' : EffectFits (size_of X) other = subst (λ (z : Size). EffectFits z other) (sym sized) effect in
       let new_e : IsNewFor other X ids = new_for X ids ok (first_new X ids (many ∙ one_in other) (EachNew-behind X (brought_each Ns) ids new.new)) other in
@@ -165,7 +162,7 @@ module _ (P : PlacedSheet) (own : List Intent) (other : Effect) (fits : EachFits
   -- the own operations first
   pub right_by_identity : (R Q : PlacedSheet) → StepsEach P own R → StepsTo R (other_past_each (placed_size P) own other) Q → IsByIdentity P own other Q
   right_by_identity R Q steps last X Ns ids ok is located many new =
-      let sized = size_placed X P is in
+      let sized = size_is X P is in
       let meets = each_meets Ns own X (placed_size P) other ids ok sized located fits effect many new in
       let there : placed (acts X Ns) ≡ R = run_is Ns own X ok located (subst (λ (z : Size). EachFitsInTurn z own) (sym sized) fits) (record { new = new_front X (brought_each Ns) ids new.new; differ = differ_front (brought_each Ns) ids new.differ }) P R is steps in
       ap placed meets.same
@@ -263,7 +260,7 @@ both_same P whole own other fits Q R left right =
     let ids = operation_ids 2 1 (operations_in other) in
     let ok = lifted-formed P in
     let mine : (n : ℕ) → 1 ≤ n → IsNew (lifted P) (operation_id 1 n) = λ n h. lifted-new P 1 n (omega arith) in
-    let located : locate_each (lifted P) (resolve_each (lifted P) 1 own) ≡ own = each_located own (lifted P) ok 1 mine (subst (λ (z : Size). EachFitsInTurn z own) (sym (size_placed (lifted P) P is)) fits) in
+    let located : locate_each (lifted P) (resolve_each (lifted P) 1 own) ≡ own = each_located own (lifted P) ok 1 mine (subst (λ (z : Size). EachFitsInTurn z own) (sym (size_is (lifted P) P is)) fits) in
     let new : AreNew (lifted P) (brought_each (resolve_each (lifted P) 1 own) ++ operation_ids 2 1 (operations_in other)) = record {
       new = EachNew-append (lifted P) (brought_each (resolve_each (lifted P) 1 own)) (operation_ids 2 1 (operations_in other)) (brought_new (lifted P) own (lifted P) 1 mine) (each_new (lifted P) 2 1 (operations_in other) (λ n h. lifted-new P 2 n (omega arith)));
       differ = each_differ (operations_in other) (one_in other) own (lifted P) 1;

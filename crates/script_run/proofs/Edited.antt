@@ -32,7 +32,8 @@ use Rattle.script_run.specs.Transcript.{show_text, server_text}
 use Rattle.script_run.specs.Rooms.{ClientStands}
 use Rattle.script_run.specs.Runs.{EachOf, SeatStands, IsRun}
 use Rattle.script_run.specs.Issues.{Decides, entry_made, Issues}
-use Rattle.script_run.proofs.Lists.{same_or_not, some_same, get_more-before, get_more-last, index_more-before, index_more-last}
+use Rattle.sheet_ops.proofs.Beginnings.{index_before}
+use Rattle.script_run.proofs.Lists.{same_or_not, some_same, get_more-before, get_more-last, index_more-last}
 use Rattle.script_run.proofs.Outcomes.{on_ok, both_ways}
 use Rattle.script_run.proofs.Standing.{seat_is, holds, stands, valid, run_with, run_same}
 
@@ -184,7 +185,7 @@ added_run w es r run none few name v size sites server c number sized taken clie
         subst (λ n. SeatStands w.history (suc n) (slice_index_or (w.seats ++ new_seat name ∷ []) n (new_seat []))) (sym e) (subst (λ (t : Seat). SeatStands w.history (suc (length w.seats)) t) (sym last_seat) new_holds)
     by_place q k (inr d) =
         let below : q < length w.seats = omega (arith, k, many, d) in
-        subst (λ (t : Seat). SeatStands w.history (suc q) t) (sym (index_more-before w.seats (new_seat name) (new_seat []) q below)) (run.seats q below)
+        subst (λ (t : Seat). SeatStands w.history (suc q) t) (sym (index_before w.seats (new_seat name) (new_seat []) q below)) (run.seats q below)
 
     by_client : (q : ℕ) (d : ClientState) → slice_get (r.clients ++ c ∷ []) q ≡ Some d → ((q ≡ length w.seats) ⊎ (q ≢ length w.seats)) →
         ClientStands w.size w.history (suc q) (slice_index_or (w.seats ++ new_seat name ∷ []) q (new_seat [])) d
@@ -203,4 +204,4 @@ added_run w es r run none few name v size sites server c number sized taken clie
         let in_all = slice_get_within (r.clients ++ c ∷ []) q d got in
         let below : q < length w.seats = omega (arith, in_all, length-append r.clients (c ∷ []), run.room.as_many, k) in
         let old : slice_get r.clients q ≡ Some d = sym (get_more-before r.clients c q (omega (arith, below, run.room.as_many))) ∙ got in
-        subst (λ (t : Seat). ClientStands w.size w.history (suc q) t d) (sym (index_more-before w.seats (new_seat name) (new_seat []) q below)) (run.room.clients q d old)
+        subst (λ (t : Seat). ClientStands w.size w.history (suc q) t d) (sym (index_before w.seats (new_seat name) (new_seat []) q below)) (run.room.clients q d old)

@@ -1,25 +1,14 @@
 -- The effects of a history with one more entry.
 use Rattle.std.proofs.Common.{◌≡◌, ◌≢◌, ℕ, ◌<◌, List, [], ◌∷◌, ◌++◌, length, ap, sym, ◌∙◌, subst, arith, inl, inr, Some}
-use Rattle.std.specs.Prelude.{◌⊎◌, slice_get, slice_index_or}
+use Rattle.std.specs.Prelude.{◌⊎◌, slice_get}
 use Rattle.std.proofs.lemmas.List.{length-append}
 use Rattle.ss_base.specs.declared.types.Size.{Size}
 use Rattle.sheet_ops.specs.declared.operation.Entry.{Entry}
 use Rattle.sheet_ops.specs.declared.operation.Effect.{Effect}
-use Rattle.sheet_ops.specs.Identity.{IdOp, opened}
-use Rattle.sheet_ops.specs.Act.{acts}
-use Rattle.sheet_ops.specs.Naming.{locate, effect_of_intent}
-use Rattle.sheet_ops.specs.History.{resolved}
-use Rattle.sheet_ops.specs.Published.{no_operation, effect_at}
-use Rattle.sheet_ops.proofs.Histories.{length-resolved, resolved-push, resolved_before}
+use Rattle.sheet_ops.specs.Published.{effect_at}
+use Rattle.sheet_ops.proofs.Beginnings.{effect_before}
 use Rattle.script_run.specs.Runs.{AreEffectsOf}
-use Rattle.script_run.proofs.Lists.{same_or_not, get_more-before, get_more-last, index_more-before}
-
--- an effect doesn't depend on what comes later
-pub effect_before : (size : Size) (H : List Entry) (e : Entry) (k : ℕ) → k < length H → effect_at size (H ++ e ∷ []) k ≡ effect_at size H k
-effect_before size H e k h =
-    let here : slice_index_or (resolved size (H ++ e ∷ [])) k no_operation ≡ slice_index_or (resolved size H) k no_operation =
-    ap (λ (Rs : List IdOp). slice_index_or Rs k no_operation) (resolved-push size H e) ∙ index_more-before (resolved size H) _ no_operation k (omega (arith, h, length-resolved size H)) in
-    λ i. effect_of_intent (locate (acts (opened size) (resolved_before size H e k (omega (arith, h)) i)) (here i))
+use Rattle.script_run.proofs.Lists.{same_or_not, get_more-before, get_more-last}
 
 pub effects_more : (size : Size) (H : List Entry) (e : Entry) (es : List Effect) (x : Effect) → AreEffectsOf size H es → x ≡ effect_at size (H ++ e ∷ []) (length H) → AreEffectsOf size (H ++ e ∷ []) (es ++ x ∷ [])
 effects_more size H e es x old is = record {

@@ -31,11 +31,6 @@ module _ {A : Type 0} where
   get_more-last [] x = refl
   get_more-last (y ∷ xs) x = get_more-last xs x
 
-  pub index_more-before : (xs : List A) (x d : A) (k : ℕ) → k < length xs → slice_index_or (xs ++ x ∷ []) k d ≡ slice_index_or xs k d
-  index_more-before [] x d k h = absurd (omega arith)
-  index_more-before (y ∷ xs) x d zero h = refl
-  index_more-before (y ∷ xs) x d (suc k) h = index_more-before xs x d k (omega arith)
-
   pub index_more-last : (xs : List A) (x d : A) → slice_index_or (xs ++ x ∷ []) (length xs) d ≡ x
   index_more-last [] x d = refl
   index_more-last (y ∷ xs) x d = index_more-last xs x d

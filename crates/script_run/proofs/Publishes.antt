@@ -20,7 +20,8 @@ use Rattle.script_run.specs.World.{World, seat_at, put_seat, recalculated, readi
 use Rattle.script_run.specs.Transcript.{all_text, range_values_text, published_values}
 use Rattle.script_run.specs.Rooms.{ClientStands}
 use Rattle.script_run.specs.Runs.{SeatStands, IsRun, PublishedIs, PublishedStands, RunStands}
-use Rattle.script_run.proofs.Fronts.{formed_at, next_fits, next_room, published_next, sheet_of_front}
+use Rattle.sheet_ops.proofs.Beginnings.{sheet_of_front, formed_at, next_fits, next_room}
+use Rattle.script_run.proofs.Fronts.{published_next}
 use Rattle.script_run.proofs.Lists.{some_same, there, set_there}
 use Rattle.script_run.proofs.Standing.{short, run_with, clients_within}
 

@@ -30,3 +30,4 @@ pub mod Lengths
 pub mod Sizes
 pub mod FirstMisfit
 pub mod SortMoves
+pub mod Beginnings

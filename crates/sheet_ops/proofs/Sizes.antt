@@ -1,7 +1,7 @@
 -- The sizes that effects leave, and what fits, by kinds.
 use Rattle.std.proofs.Common.{◌≡◌, ℕ, ◌+◌, ◌<◌, ◌≤◌, length, map, refl, ap, sym, ◌∙◌, subst, arith, Bool, true, false, Option, None, Some}
 use Rattle.std.specs.Prelude.{insert, slice_set, IsNone}
-use Rattle.std.proofs.lemmas.List.{length-set}
+use Rattle.std.proofs.lemmas.List.{length-map, length-set}
 use Rattle.std.proofs.lemmas.List.Edits.{length-insert}
 use Rattle.ss_base.specs.declared.types.Size.{Size}
 use Rattle.marked_lines.proofs.Permuting.{length-permuted_from}
@@ -12,12 +12,17 @@ use Rattle.sheet_ops.specs.declared.operation.Effect.TheVariants as effect
 use Rattle.sheet_ops.specs.Naming.{effect_of_intent}
 use Rattle.sheet_ops.specs.Maps.{LineMap, row_map, col_map, intent_moved}
 use Rattle.sheet_ops.specs.Transforms.{own_past, other_past}
-use Rattle.sheet_ops.specs.Placed.{PlacedSheet, placed_size}
+use Rattle.sheet_ops.specs.Identity.{IdSheet}
+use Rattle.sheet_ops.specs.Placed.{PlacedSheet, placed, placed_size, size_of}
 use Rattle.sheet_ops.specs.Effects.{effect_on}
 use Rattle.sheet_ops.specs.Fits.{IntentFits, EffectFits, HasRoom}
 use Rattle.sheet_ops.specs.Misfits.{MovesArePerm, misfit, intent_tests, effect_tests}
 use Rattle.sheet_ops.proofs.FirstMisfit.{intent_misfit, effect_misfit}
 use Rattle.sheet_ops.specs.Chains.{size_past}
+
+-- identities are hidden, not lines
+pub size_placed : (X : IdSheet) → placed_size (placed X) ≡ size_of X
+size_placed X = λ i. record { rows = length-map X.rows.lines (λ l. X.rows.dead l.rec) i; cols = length-map X.cols.lines (λ l. X.cols.dead l.rec) i }
 
 -- a transform keeps the kind
 own_kind : (s : Size) (r c : LineMap) (op : Intent) → size_past s (effect_of_intent (intent_moved r c op)) ≡ size_past s (effect_of_intent op)
