@@ -23,5 +23,5 @@ summary_cut number text before old new is told (count, short, a) = (
 )
 
 -- one list of words asks for one number
-pub same_number : (asked : Option Call) (a b : ℕ) → asked ≡ Some (call.Load a) → asked ≡ Some (call.Load b) → a ≡ b
-same_number asked a b h k = cc
+pub same_load : (asked : Option Call) (a b : ℕ) → asked ≡ Some (call.Load a) → asked ≡ Some (call.Load b) → a ≡ b
+same_load asked a b h k = cc

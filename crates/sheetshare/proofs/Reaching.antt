@@ -65,7 +65,7 @@ some_is a b e = cc
 abbrev OpenBehind : List ℕ → List Line → List ℕ → Type 0
 OpenBehind whole done rest = (rest ≡ []) ⊎ (EndsLine whole × ((more : List ℕ) → lines (whole ++ more) ≡ done ++ lines_from (length whole) more))
 
-pub record Reaches (bytes : List ℕ) (f : FeedState) (left : Option (List ℕ)) (t : RunState) (n : ℕ) : Type 0 where
+pub record HasDone (bytes : List ℕ) (f : FeedState) (left : Option (List ℕ)) (t : RunState) (n : ℕ) : Type 0 where
   pub whole : List ℕ
   pub rest : List ℕ
   pub done : List Line
@@ -78,8 +78,8 @@ pub record Reaches (bytes : List ℕ) (f : FeedState) (left : Option (List ℕ))
   pub through : (more : List Line) → script_of (done ++ more) ≡ continued commands (script_from t.declared n more)
   pub world : after_all no_world commands ≡ t.world
 
-abbrev pub reaches_first : (bytes : List ℕ) (f : FeedState) (left : Option (List ℕ)) → f ≡ record { line = []; ahead = []; used = 0 } → left ≡ Some bytes → Reaches bytes f left first_table 1
-reaches_first bytes f left empty told = record {
+abbrev pub start_reached : (bytes : List ℕ) (f : FeedState) (left : Option (List ℕ)) → f ≡ record { line = []; ahead = []; used = 0 } → left ≡ Some bytes → HasDone bytes f left first_table 1
+start_reached bytes f left empty told = record {
   whole = [];
   rest = bytes;
   done = [];
@@ -94,21 +94,21 @@ reaches_first bytes f left empty told = record {
 }
 
 -- from the state before the first line
-pub reached_first : (bytes : List ℕ) (f : FeedState) (left : Option (List ℕ)) (t : RunState) → t ≡ first_table → f ≡ record { line = []; ahead = []; used = 0 } → left ≡ Some bytes → Reaches bytes f left t 1
-reached_first bytes f left t is empty told = subst (λ (u : RunState). Reaches bytes f left u 1) (sym is) (reaches_first bytes f left empty told)
+pub reached_first : (bytes : List ℕ) (f : FeedState) (left : Option (List ℕ)) (t : RunState) → t ≡ first_table → f ≡ record { line = []; ahead = []; used = 0 } → left ≡ Some bytes → HasDone bytes f left t 1
+reached_first bytes f left t is empty told = subst (λ (u : RunState). HasDone bytes f left u 1) (sym is) (start_reached bytes f left empty told)
 
 -- and what was written is the transcript of the lines that are done
 abbrev pub IsPlaced : (bytes before : List ℕ) → FeedState → Option (List ℕ) → Option (List ℕ) → RunState → ℕ → Type 0
-IsPlaced bytes before f left taken t n = (r : Reaches bytes f left t n) × (taken ≡ Some (before ++ transcript r.commands))
+IsPlaced bytes before f left taken t n = (r : HasDone bytes f left t n) × (taken ≡ Some (before ++ transcript r.commands))
 
 pub placed_first : (bytes before : List ℕ) (f : FeedState) (left taken : Option (List ℕ)) (t : RunState) → t ≡ first_table → f ≡ record { line = []; ahead = []; used = 0 } → left ≡ Some bytes → taken ≡ Some before
     → IsPlaced bytes before f left taken t 1
 placed_first bytes before f left taken t is empty told wrote =
-    subst (λ (u : RunState). IsPlaced bytes before f left taken u 1) (sym is) (reaches_first bytes f left empty told, wrote ∙ ap Some (sym (append-nil before)))
+    subst (λ (u : RunState). IsPlaced bytes before f left taken u 1) (sym is) (start_reached bytes f left empty told, wrote ∙ ap Some (sym (append-nil before)))
 
 -- ---- the next line
 
-module _ (bytes : List ℕ) (f : FeedState) (left : Option (List ℕ)) (t : RunState) (n : ℕ) (r : Reaches bytes f left t n) where
+module _ (bytes : List ℕ) (f : FeedState) (left : Option (List ℕ)) (t : RunState) (n : ℕ) (r : HasDone bytes f left t n) where
   -- the script of the lines that are done
   script_done : script r.whole ≡ record { commands = r.commands; stop = refused_at n kind.Unended }
   script_done =
@@ -209,7 +209,7 @@ module _ (bytes : List ℕ) (f : FeedState) (left : Option (List ℕ)) (t : RunS
       turn_of_bytes x k = ap (λ b. turn_of_line t.declared n (command_of b)) here.is ∙ k
 
       module _ (t' : RunState) (text : List ℕ) (k : TurnGives t t' n g.line (outcome.Goes text)) where
-        pub reaches_on : Reaches bytes g after t' (n + 1)
+        pub reaches_on : HasDone bytes g after t' (n + 1)
         reaches_on = record {
           whole = r.whole ++ here.taken;
           rest = here.rest;
