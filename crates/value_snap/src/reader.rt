@@ -159,6 +159,14 @@ impl Reader {
     {
         self.refused
     }
+
+    /// How many entries of the history the values stand for that it has read or learnt of last. It takes
+    /// no memory.
+    pub fn length(&self) -> u32
+        ensures { result ≡ upto_from 0 self.now.known }
+    {
+        self.front.upto()
+    }
 }
 
 /// Reads what is on show and takes it for seen, unless it is behind what was known.
