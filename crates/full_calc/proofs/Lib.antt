@@ -20,4 +20,5 @@ pub mod Seen
 pub mod Sheets
 pub mod Shows
 pub mod Standing
+pub mod Stored
 pub mod Tables

@@ -1,4 +1,5 @@
-ghost use Rattle.std.specs.Prelude.{◌≡◌, ◌≢◌, ◌<◌, ℕ, IfOk, OnOk};
+ghost use Rattle.std.specs.Prelude.{◌≡◌, ◌≢◌, ◌<◌, ℕ, length, IfOk, OnOk};
+ghost use Rattle.sheet_ops.specs.Placed.{cell_at};
 ghost use Rattle.sheet_value.specs.declared.value.Value.TheVariants as value;
 ghost use Rattle.sheet_value.specs.Tables.{value_at, with_value};
 ghost use Rattle.sheet_grid.specs.Values.{placed_in};
@@ -8,8 +9,8 @@ ghost use Rattle.full_calc.specs.Shown.{HasItsSize};
 ghost use Rattle.full_calc.specs.Evaluated.{constant_of};
 ghost use Rattle.full_calc.specs.Computed.{HasConstants};
 
-use sheet_graph::{content_seen, filled_in_row};
-use sheet_grid::Sheet;
+use sheet_graph::filled_in_row;
+use sheet_grid::{Kind, Sheet};
 use sheet_ops::Content;
 use sheet_value::{Grid, Value, text_value};
 use ss_base::Memory;
@@ -26,14 +27,41 @@ fn constant_of(content: Content) -> Value
     }
 }
 
+/// The value of the constant in the cell at a visible index, and nothing for a formula, which isn't
+/// read.
+fn constant_seen(sheet: &Sheet, row: u32, col: u32) -> Result<Value, Memory>
+    ensures { IfOk result (λ v. v ≡ constant_of (content_seen (placed_in sheet.now) row col)) }
+{
+    let Some(p) = sheet.row_at(row) else {
+        return Ok(Value::Empty);
+    };
+    let Some(q) = sheet.col_at(col) else {
+        return Ok(Value::Empty);
+    };
+    constant_at(sheet, p, q)
+}
+
+/// The same of the cell at a position.
+fn constant_at(sheet: &Sheet, row: u32, col: u32) -> Result<Value, Memory>
+    requires row { row < length (placed_in sheet.now).rows }
+    requires col { col < length (placed_in sheet.now).cols }
+    ensures { IfOk result (λ v. v ≡ constant_of (cell_at (placed_in sheet.now) row col)) }
+{
+    match sheet.kind(row, col) {
+        Kind::Empty | Kind::Formula => Ok(Value::Empty),
+        Kind::Num(number) => Ok(Value::Num(number)),
+        Kind::Text => Ok(constant_of(sheet.content(row, col)?)),
+    }
+}
+
 /// Puts the constant of a cell into its place.
 fn put_constant(grid: &mut Grid, sheet: &Sheet, row: u32, col: u32) -> Result<(), Memory>
     requires row { row < grid.old.size.rows }
     requires col { col < grid.old.size.cols }
     ensures { OnOk result (grid.new ≡ with_value grid.old row col (constant_of (content_seen (placed_in sheet.now) row col))) }
 {
-    let content = content_seen(sheet, row, col)?;
-    grid.put(row, col, constant_of(content))
+    let value = constant_seen(sheet, row, col)?;
+    grid.put(row, col, value)
 }
 
 /// Puts the constants of a row into their places, where nothing is yet.

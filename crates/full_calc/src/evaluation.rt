@@ -31,7 +31,7 @@ pub(crate) fn circle(grid: &mut Grid, nodes: &[Node], colours: &[Colour]) -> Res
     Ok(())
 }
 
-/// Evaluates one formula cell.
+/// Evaluates one formula cell, whose formula is read where it is stored.
 fn evaluate_node<G: Ledger>(
     alloc: Global,
     lines: &SheetLines,
@@ -44,8 +44,14 @@ fn evaluate_node<G: Ledger>(
     ensures count { steps.new ≤ steps.old + 1 }
     ensures value { OnOk result (grid.new ≡ with_value grid.old node.now.row node.now.col (formula_value (look_environment lines.now.rows lines.now.cols grid.old) node.now.formula)) }
 {
-    let code = compile(alloc, &node.formula)?;
-    let value = eval(alloc, &code, &SheetLook { lines, grid }, steps)?;
+    let stored = node.formula.parts();
+    let code = compile(alloc, stored.1)?;
+    let look = SheetLook {
+        sheet: stored.0,
+        lines,
+        grid,
+    };
+    let value = eval(alloc, &code, &look, steps)?;
     grid.put(node.row, node.col, value)
 }
 

@@ -5,8 +5,10 @@ mod constants;
 mod evaluation;
 mod lines;
 mod look;
+mod uncounted;
 mod whole;
 
+pub use uncounted::evaluated;
 pub use whole::values;
 
 #[cfg(test)]

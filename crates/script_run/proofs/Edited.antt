@@ -25,13 +25,15 @@ use Rattle.author_ops.specs.Edits.{intended}
 use Rattle.sheet_text.specs.Shown.{shown, shown_placed}
 use Rattle.sheet_text.specs.Texts.{sheet_text, head_text, server_head_text}
 use Rattle.sheet_text.proofs.Seen.{shown-placed}
+use Rattle.sort_keys.specs.Keys.{keys_of}
 use Rattle.script_run.specs.declared.seat.Seat.{Seat}
 use Rattle.script_run.specs.declared.room.Room.{Room}
-use Rattle.script_run.specs.World.{World, new_seat, seat_at, put_seat, site_view, pending_at, keys_of, unless_spent, decided, after_decided}
+use Rattle.script_run.specs.World.{World, new_seat, seat_at, put_seat, site_view, pending_at, decided, after_decided}
 use Rattle.script_run.specs.Transcript.{show_text, server_text}
 use Rattle.script_run.specs.Rooms.{ClientStands}
 use Rattle.script_run.specs.Runs.{EachOf, SeatStands, IsRun}
-use Rattle.script_run.specs.Issues.{Decides, entry_made, Issues}
+use Rattle.client_edits.specs.Decided.{unless_spent, Decides}
+use Rattle.script_run.specs.Issues.{entry_made, Issues}
 use Rattle.sheet_ops.proofs.Beginnings.{index_before}
 use Rattle.script_run.proofs.Lists.{same_or_not, some_same, get_more-before, get_more-last, index_more-last}
 use Rattle.script_run.proofs.Outcomes.{on_ok, both_ways}

@@ -12,8 +12,9 @@ use Rattle.sheet_ops.specs.Identity.{IdSheet}
 use Rattle.sheet_ops.specs.Placed.{PlacedSheet, placed}
 use Rattle.sheet_ops.specs.Represents.{ClientState}
 use Rattle.author_ops.specs.Edits.{Denotes, intended}
-use Rattle.script_run.specs.World.{keys_of, unless_spent}
-use Rattle.script_run.specs.Issues.{AreKeys, Decides}
+use Rattle.sort_keys.specs.Keys.{keys_of, AreKeys}
+use Rattle.client_edits.specs.Decided.{unless_spent}
+use Rattle.client_edits.specs.Decided.{Decides}
 
 spent : (n : ℕ) (op : Intent) → n ≡ 1000 → unless_spent n (Ok op) ≡ Err fault.Spent
 spent n op h = by_test (nat_lt n 1000) (let k : nat_lt n 1000 ≡ false = grind (arith, nat_tests) in k)

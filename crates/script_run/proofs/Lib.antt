@@ -7,7 +7,6 @@ pub mod Effects
 pub mod Standing
 pub mod Edited
 pub mod Issued
-pub mod Keying
 pub mod Fronts
 pub mod Publishes
 pub mod Histories

@@ -17,7 +17,8 @@ use Rattle.script_run.specs.declared.published.PublishedSheet.{PublishedSheet}
 use Rattle.script_run.specs.declared.room.Room.{Room}
 use Rattle.script_run.specs.declared.seat.Seat.{Seat}
 use Rattle.script_run.specs.World.{World, seat_at, put_seat, recalculated, reading}
-use Rattle.script_run.specs.Transcript.{all_text, range_values_text, published_values}
+use Rattle.sheet_text.specs.Values.{all_text, range_values_text}
+use Rattle.script_run.specs.Transcript.{published_values}
 use Rattle.script_run.specs.Rooms.{ClientStands}
 use Rattle.script_run.specs.Runs.{SeatStands, IsRun, PublishedIs, PublishedStands, RunStands}
 use Rattle.sheet_ops.proofs.Beginnings.{sheet_of_front, formed_at, next_fits, next_room}

@@ -1,8 +1,5 @@
 -- What one line does to a script's state.
-use Rattle.std.specs.Prelude.{ℕ, ◌≡◌, ◌≢◌, Result, Ok, Err, Bool, true, false, List, [], map, Option, Some, None, is_some, length, ◌<◌, ◌≤◌}
-use Rattle.sheet_ops.specs.declared.edit.EditErr.{EditErr}
-use Rattle.sheet_ops.specs.declared.edit.EditErr.TheVariants as fault
-use Rattle.sheet_text.specs.Texts.{refusal_text}
+use Rattle.std.specs.Prelude.{ℕ, ◌≡◌, Bool, true, false, List, [], map, Option, Some, None, is_some, length, ◌<◌, ◌≤◌}
 use Rattle.script_read.specs.declared.command.Command.{Command}
 use Rattle.script_read.specs.declared.command.Command.TheVariants as command
 use Rattle.script_read.specs.Commands.{command_of, EditWithin}
@@ -56,11 +53,6 @@ MayStep w (command.Sync name) = HasSite w name
 MayStep w (command.Read name range) = HasSite w name × (range.top ≤ range.bottom) × (range.left ≤ range.right)
 MayStep w (command.Show name) = HasSite w name
 MayStep w _ = Unit {0}
-
--- what is printed of an edit's answer
-abbrev pub TextOf : Result (Unit {0}) EditErr → ℕ → List ℕ → Type 0
-TextOf (Ok done) n text = text ≡ []
-TextOf (Err e) n text = (e ≢ fault.Memory) × (text ≡ refusal_text n e)
 
 -- a command that goes on
 abbrev pub StepGives : RunState → RunState → ℕ → Command → List ℕ → Type 0

@@ -1,31 +1,21 @@
 -- What a run prints.
-use Rattle.std.specs.Prelude.{ℕ, nat_lt, ◌&&◌, if◌then◌else◌, List, [], ◌∷◌, ◌++◌, length, map, take, Result, Ok, Err}
+use Rattle.std.specs.Prelude.{ℕ, List, [], ◌∷◌, ◌++◌, length, map, take}
 use Rattle.std.specs.List.{range_with_len}
 use Rattle.ss_base.specs.declared.types.Size.{Size}
-use Rattle.ss_base.specs.declared.types.Span.{Span}
-use Rattle.sheet_ops.specs.declared.edit.EditErr.{EditErr}
-use Rattle.sheet_ops.specs.declared.edit.EditErr.TheVariants as fault
 use Rattle.sheet_ops.specs.declared.operation.Effect.{Effect}
 use Rattle.sheet_ops.specs.declared.operation.Entry.{Entry}
-use Rattle.sheet_ops.specs.declared.operation.Intent.{Intent}
 use Rattle.sheet_ops.specs.Identity.{IdSheet}
 use Rattle.sheet_ops.specs.History.{sheet_of}
 use Rattle.sheet_ops.specs.Published.{effect_at}
 use Rattle.sheet_value.specs.Tables.{Table}
-use Rattle.author_ops.specs.Copies.{line_count}
 use Rattle.full_calc.specs.Values.{value_table}
 use Rattle.sheet_text.specs.Shown.{shown}
 use Rattle.script_read.specs.declared.command.Command.{Command}
 use Rattle.script_read.specs.declared.command.Command.TheVariants as command
-use Rattle.sheet_text.specs.Texts.{sheet_text, head_text, server_head_text, refusal_text}
+use Rattle.sheet_text.specs.Texts.{sheet_text, head_text, server_head_text, refusal_of}
 use Rattle.sheet_text.specs.Operations.{history_text, wire_text}
-use Rattle.sheet_text.specs.Values.{values_text, values_head_text, read_head_text}
+use Rattle.sheet_text.specs.Values.{all_text, range_values_text}
 use Rattle.script_run.specs.World.{World, no_world, seat_index, seat_at, site_view, pending_at, decided, after_command}
-
--- of an edit the line of its refusal alone
-abbrev pub refusal_of : ℕ → Result Intent EditErr → List ℕ
-refusal_of line (Ok op) = []
-refusal_of line (Err e) = refusal_text line e
 
 -- the sheet that a site sees
 abbrev pub show_text : World → ℕ → List ℕ
@@ -41,17 +31,6 @@ published_sheet w = sheet_of w.size (take w.published w.history)
 
 unfoldable pub published_values : World → Table
 published_values w = value_table (published_sheet w)
-
--- all values, evaluated at a length of the history
-abbrev pub all_text : ℕ → Table → List ℕ
-all_text length T = values_text (values_head_text length T.size) T (range_with_len 0 T.size.rows) (range_with_len 0 T.size.cols)
-
--- those in a range, for a site by its name, or the line of a refusal where the range isn't in the visible sheet
-abbrev pub range_values_text : ℕ → List ℕ → Span → ℕ → Table → List ℕ
-range_values_text line name range length T =
-    if nat_lt range.bottom T.size.rows && nat_lt range.right T.size.cols
-    then values_text (read_head_text name length range) T (range_with_len range.top (line_count range.top range.bottom)) (range_with_len range.left (line_count range.left range.right))
-    else refusal_text line fault.OutOfSheet
 
 -- the names of the sites, in the order in which they were declared
 abbrev pub site_names : World → List (List ℕ)

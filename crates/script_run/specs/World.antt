@@ -1,21 +1,17 @@
 -- The state of a run: one history, and what each site has. One command is one step of it.
-use Rattle.std.specs.Prelude.{ℕ, zero, suc, ◌+◌, ◌-◌, min, max, nat_lt, if◌then◌else◌, List, [], ◌∷◌, ◌++◌, length, take, drop, map, Option, Some, None, Result, Ok, Err, slice_index_or, slice_set, position, unwrap_or}
-use Rattle.std.specs.List.{range_with_len}
+use Rattle.std.specs.Prelude.{ℕ, zero, suc, ◌+◌, ◌-◌, min, max, nat_lt, if◌then◌else◌, List, [], ◌∷◌, ◌++◌, length, take, drop, Option, Some, None, Result, Ok, Err, slice_index_or, slice_set, position, unwrap_or}
 use Rattle.std.specs.Str.{bytes_eq}
 use Rattle.ss_base.specs.declared.types.Size.{Size}
-use Rattle.sheet_value.specs.declared.value.Value.{Value}
-use Rattle.sheet_value.specs.Tables.{value_at}
 use Rattle.sheet_ops.specs.declared.edit.Edit.{Edit}
-use Rattle.sheet_ops.specs.declared.edit.Edit.TheVariants as edit
 use Rattle.sheet_ops.specs.declared.edit.EditErr.{EditErr}
 use Rattle.sheet_ops.specs.declared.edit.EditErr.TheVariants as fault
 use Rattle.sheet_ops.specs.declared.operation.Entry.{Entry}
 use Rattle.sheet_ops.specs.declared.operation.Intent.{Intent}
 use Rattle.sheet_ops.specs.Identity.{IdSheet}
 use Rattle.sheet_ops.specs.History.{own_entries, operations, view}
-use Rattle.author_ops.specs.Copies.{line_count}
 use Rattle.author_ops.specs.Edits.{intended}
-use Rattle.full_calc.specs.Values.{value_table}
+use Rattle.sort_keys.specs.Keys.{keys_of}
+use Rattle.client_edits.specs.Decided.{unless_spent}
 use Rattle.script_read.specs.declared.command.Command.{Command}
 use Rattle.script_read.specs.declared.command.Command.TheVariants as command
 use Rattle.script_run.specs.declared.seat.Seat.{Seat}
@@ -54,17 +50,6 @@ site_view w p = let s = seat_at w p in view w.size w.history (suc p) s.taken s.m
 -- how many of its own entries are not in the part that it has taken
 abbrev pub pending_at : World → ℕ → ℕ
 pending_at w p = let s = seat_at w p in length s.made - length (own_entries (suc p) (take s.taken w.history))
-
--- a site has 1,000 operations
-abbrev pub unless_spent : ℕ → Result Intent EditErr → Result Intent EditErr
-unless_spent issued (Err e) = Err e
-unless_spent issued (Ok op) = if nat_lt issued 1000 then Ok op else Err fault.Spent
-
--- The keys of a sort, one a row: the values of the sheet in the column by which it sorts. No other edit has keys. No proof looks
--- into them but where it says so.
-unfoldable pub keys_of : IdSheet → Edit → List Value
-keys_of X (edit.Sort first last col down) = map (λ (row : ℕ). value_at (value_table X) row col) (range_with_len first (line_count first last))
-keys_of X _ = []
 
 -- what an edit of a site comes to on what the site sees
 abbrev pub decided : World → ℕ → Edit → Result Intent EditErr

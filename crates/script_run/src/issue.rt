@@ -7,13 +7,14 @@ ghost use Rattle.sheet_ops.specs.Fits.{IntentFits};
 ghost use Rattle.sheet_ops.specs.Placed.{placed_size};
 ghost use Rattle.jup_client.specs.Clients.{own_entry};
 ghost use Rattle.script_read.specs.Commands.{EditWithin};
-ghost use Rattle.script_run.specs.Issues.{Decides, Issues};
+ghost use Rattle.client_edits.specs.Decided.{Decides};
+ghost use Rattle.script_run.specs.Issues.{Issues};
 
-use crate::keys::keys;
 use crate::seat::Seat;
 use author_ops::denoted;
 use jup_client::Client;
 use sheet_ops::{Edit, EditErr, Entry, Intent};
+use sort_keys::keys;
 use ss_base::Site;
 use std::alloc::Global;
 

@@ -4,7 +4,6 @@
 
 mod deliver;
 mod issue;
-mod keys;
 pub mod laws;
 mod places;
 mod published;
@@ -12,7 +11,6 @@ mod room;
 mod run;
 mod seat;
 mod state;
-mod text;
 
 pub use room::Room;
 pub use run::Run;

@@ -3,21 +3,18 @@ ghost use Rattle.sheet_grid.specs.Values.{placed_in};
 ghost use Rattle.sheet_ops.specs.Effects.{StepsTo};
 ghost use Rattle.sheet_ops.specs.Fits.{EffectFits, HasRoom, IsWellFormed};
 ghost use Rattle.sheet_ops.specs.Identity.{IdSheet, opened};
-ghost use Rattle.sheet_ops.specs.Placed.{placed, placed_size};
+ghost use Rattle.sheet_ops.specs.Placed.{placed_size};
 ghost use Rattle.full_calc.specs.Values.{value_table};
+ghost use Rattle.sheet_text.specs.Values.{all_text, range_values_text};
 ghost use Rattle.script_run.specs.Runs.{PublishedIs};
-ghost use Rattle.script_run.specs.Transcript.{all_text, range_values_text};
 
-use cell_eval::Steps;
-use full_calc::values;
+use full_calc::evaluated;
 use sheet_grid::Sheet;
-use sheet_ops::{EditErr, Effect};
-use sheet_text::{read_head, refusal, value_lines, values_head};
+use sheet_ops::Effect;
+use sheet_text::{all_text, range_text};
 use sheet_value::Grid;
 use ss_base::{Memory, Size, Span, Txt};
 use std::alloc::Global;
-use std::marker::Brand;
-use std::sync::ledger::{Blank, Ledger};
 
 /// The sheet of the entries of a history that are published, and the values of its last evaluation.
 #[derive(Debug, Drop)]
@@ -113,60 +110,5 @@ impl PublishedSheet {
             self.is_current = true;
         }
         Ok(())
-    }
-}
-
-/// The values of a sheet, evaluated in full. Nobody counts the evaluations.
-pub fn evaluated(alloc: Global, sheet: &Sheet) -> Result<Grid, Memory>
-    ensures { IfOk result (λ g. (X : IdSheet) → IsWellFormed X → placed X ≡ placed_in sheet.now → g ≡ value_table X) }
-{
-    counted::<Brand>(alloc, sheet, Blank::new(1))
-}
-
-/// The same in a ledger that counts the evaluations.
-fn counted<G: Ledger>(alloc: Global, sheet: &Sheet, blank: Blank) -> Result<Grid, Memory>
-    requires name { blank.name ≡ G.name }
-    requires parts { blank.parts ≡ G.parts }
-    requires some { 0 < blank.parts }
-    ensures { IfOk result (λ g. (X : IdSheet) → IsWellFormed X → placed X ≡ placed_in sheet.now → g ≡ value_table X) }
-{
-    let mut steps = Steps::<G>::new(blank);
-    values(alloc, sheet, &mut steps)
-}
-
-/// The text of all values, evaluated at a length of the history.
-fn all_text(alloc: Global, length: u32, grid: &Grid) -> Result<Txt, Memory>
-    ensures { IfOk result (λ t. t ≡ all_text length grid.now) }
-{
-    let size = grid.size();
-    let head = values_head(alloc, length, size)?;
-    value_lines(alloc, &head, grid, 0..size.rows, 0..size.cols)
-}
-
-/// The text of the values in a range, or that of its refusal.
-fn range_text(
-    alloc: Global,
-    number: u32,
-    name: &Txt,
-    range: &Span,
-    length: u32,
-    grid: &Grid,
-) -> Result<Txt, Memory>
-    requires rows { range.now.top ≤ range.now.bottom }
-    requires cols { range.now.left ≤ range.now.right }
-    ensures { IfOk result (λ t. t ≡ range_values_text number name.now range.now length grid.now) }
-{
-    let size = grid.size();
-    if range.bottom < size.rows && range.right < size.cols {
-        let head = read_head(alloc, name, length, range)?;
-        value_lines(
-            alloc,
-            &head,
-            grid,
-            range.top..range.bottom + 1,
-            range.left..range.right + 1,
-        )
-    } else {
-        refusal(alloc, number, EditErr::OutOfSheet)
     }
 }

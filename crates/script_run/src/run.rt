@@ -7,7 +7,8 @@ ghost use Rattle.script_read.specs.declared.command.Command.TheVariants as comma
 ghost use Rattle.script_read.specs.Commands.{EditWithin};
 ghost use Rattle.script_run.specs.World.{no_world, new_seat, seat_index, place_in, seat_at, site_view, decided, after_decided, at_most, pushed, pulled, recalculated, synced, reading, each_pushed, each_pulled, after_command};
 ghost use Rattle.sheet_text.specs.Operations.{history_text, wire_text};
-ghost use Rattle.script_run.specs.Transcript.{all_text, effects, site_names, published_values, range_values_text, show_text, server_text, printed};
+ghost use Rattle.sheet_text.specs.Values.{all_text, range_values_text};
+ghost use Rattle.script_run.specs.Transcript.{effects, site_names, published_values, show_text, server_text, printed};
 ghost use Rattle.script_run.specs.Places.{with_place};
 ghost use Rattle.script_run.specs.Rooms.{RoomRepresents};
 ghost use Rattle.script_run.specs.States.{MayStep, closes};
@@ -18,13 +19,12 @@ use crate::places::Places;
 use crate::published::PublishedSheet;
 use crate::room::Room;
 use crate::seat::Seat;
-use crate::text::{nothing, text_of};
 use jup_client::Client;
 use jup_server::Server;
 use script_read::Command;
 use sheet_grid::Sheet;
 use sheet_ops::{Edit, EditErr, Effect, Entry};
-use sheet_text::{head, history_lines, server_head, sheet_lines, wire_lines};
+use sheet_text::{answer_text, head, history_lines, nothing, server_head, sheet_lines, wire_lines};
 use sheet_value::Grid;
 use ss_base::{Memory, Seq, Site, Size, Span, Txt};
 use std::alloc::Global;
@@ -364,7 +364,7 @@ impl Run {
     {
         let place = self.place(name);
         let answer = self.edit(alloc, place, edit);
-        text_of(alloc, number, answer)
+        answer_text(alloc, number, answer)
     }
 
     /// The place of a site that is there.

@@ -8,8 +8,8 @@ ghost use Rattle.script_run.specs.Rooms.{RoomRepresents};
 
 use crate::room::Room;
 use crate::run::Run;
-use crate::text::nothing;
 use script_read::{Command, LineFault, ScriptErr, ScriptKind, read_command};
+use sheet_text::nothing;
 use ss_base::{Memory, Txt};
 use std::alloc::Global;
 use std::marker::Model;

@@ -4,4 +4,5 @@ pub mod Gathered
 pub mod Lists
 pub mod Seats
 pub mod Spans
+pub mod StoredCells
 pub mod Within

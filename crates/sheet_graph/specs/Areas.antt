@@ -4,8 +4,6 @@ use Rattle.std.specs.List.{cons_option}
 use Rattle.ss_base.specs.declared.types.Spot.{Spot}
 use Rattle.ss_base.specs.declared.types.Span.{Span}
 use Rattle.formula_tree.specs.Tree.{Tree, Trees, num, text, fault, cell, range, pre, bin, call, none, more}
-use Rattle.formula_tree.specs.declared.expression.Expr.{Expr}
-use Rattle.formula_tree.specs.Erase.{tree_of}
 use Rattle.marked_lines.specs.Marks.{visible_of, span_of}
 use Rattle.sheet_graph.specs.declared.areas.Area.{Area}
 
@@ -54,6 +52,3 @@ module _ (rows cols : List Bool) where
     pub areas_in_all : Trees Spot Span → List Area
     areas_in_all none = []
     areas_in_all (more t ts) = areas_in t ++ areas_in_all ts
-
-  abbrev pub expr_areas : Expr → List Area
-  expr_areas e = areas_in (tree_of e)

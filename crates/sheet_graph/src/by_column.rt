@@ -55,7 +55,7 @@ impl Rows {
 fn empty_lists(alloc: Global, count: u32) -> Result<Vec<Rows>, Memory>
     ensures { IfOk result (λ v. v.items ≡ replicate count []) }
 {
-    let mut lists = Vec::new(alloc);
+    let mut lists = Vec::with_capacity(alloc, count as usize)?;
     for _ in 0..count {
         lists.push(Rows::new(alloc))?;
     }

@@ -1,25 +1,27 @@
-ghost use Rattle.std.specs.Prelude.{◌≡◌, ◌++◌, IfOk, OnOk, option_to_list};
+ghost use Rattle.std.specs.Prelude.{◌≡◌, ◌++◌, false, IfOk, IfSome, IfNone, OnOk, option_to_list};
 ghost use Rattle.marked_lines.specs.Marks.{visible_of};
 ghost use Rattle.sheet_grid.specs.Values.{placed_in};
 ghost use Rattle.sheet_grid.specs.Cells.{visible_size};
-ghost use Rattle.sheet_graph.specs.Graphs.{content_seen, HoldsFilled};
+ghost use Rattle.sheet_ops.specs.declared.content.Content.TheVariants as content;
+ghost use Rattle.sheet_graph.specs.Graphs.{is_formula_content, content_seen, HoldsFilled};
+ghost use Rattle.sheet_graph.specs.Placing.{tree_placed};
 
+use formula_tree::Formula;
 use sheet_grid::Sheet;
-use sheet_ops::Content;
 use ss_base::Memory;
 use std::alloc::Global;
 
-/// A copy of what the cell at a visible index holds, and nothing where there is none.
-pub fn content_seen(sheet: &Sheet, row: u32, col: u32) -> Result<Content, Memory>
-    ensures { IfOk result (λ c. c ≡ content_seen (placed_in sheet.now) row col) }
+/// The formula in the cell at a visible index as its sheet stores it, and `None` exactly where the
+/// cell has no formula.
+pub(crate) fn formula_seen(sheet: &Sheet, row: u32, col: u32) -> Option<&Formula>
+    ensures formula { IfSome result (λ f. content_seen (placed_in sheet.now) row col ≡ content.Formula (tree_placed sheet.now f.now)) }
+    ensures none { IfNone result (is_formula_content (content_seen (placed_in sheet.now) row col) ≡ false) }
 {
-    let Some(row) = sheet.row_at(row) else {
-        return Ok(Content::Empty);
-    };
-    let Some(col) = sheet.col_at(col) else {
-        return Ok(Content::Empty);
-    };
-    sheet.content(row, col)
+    // Its numbers and positions lead to each other.
+    let _size = sheet.size();
+    let p = sheet.row_at(row)?;
+    let q = sheet.col_at(col)?;
+    sheet.stored(sheet.rec_number(p), sheet.col_number(q))
 }
 
 /// Adds the visible index of a column, where it is visible.
@@ -37,11 +39,11 @@ fn push_seen(seen: &mut Vec<u32>, sheet: &Sheet, col: u32) -> Result<(), Memory>
 pub fn filled_in_row(alloc: Global, sheet: &Sheet, row: u32) -> Result<Vec<u32>, Memory>
     ensures { IfOk result (λ cols. HoldsFilled (placed_in sheet.now) row (visible_size (placed_in sheet.now)).cols cols.items) }
 {
-    let mut seen = Vec::new(alloc);
     let Some(place) = sheet.row_at(row) else {
-        return Ok(seen);
+        return Ok(Vec::new(alloc));
     };
     let places = sheet.filled(place)?;
+    let mut seen = Vec::with_capacity(alloc, places.len())?;
     for col in &places {
         push_seen(&mut seen, sheet, *col)?;
     }

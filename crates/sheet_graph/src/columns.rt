@@ -90,7 +90,7 @@ impl Column {
 pub(crate) fn empty_columns(alloc: Global, count: u32) -> Result<Vec<Column>, Memory>
     ensures { IfOk result (λ v. v.items ≡ replicate count []) }
 {
-    let mut columns = Vec::new(alloc);
+    let mut columns = Vec::with_capacity(alloc, count as usize)?;
     for _ in 0..count {
         columns.push(Column::new(alloc))?;
     }

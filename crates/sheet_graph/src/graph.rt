@@ -10,34 +10,33 @@ ghost use Rattle.sheet_graph.specs.Cursor.{all_left};
 
 use crate::areas::{Area, next_in_areas};
 use crate::by_column::filled_rows;
-use crate::cells::content_seen;
+use crate::cells::formula_seen;
 use crate::columns::{Column, empty_columns};
 use crate::references::push_areas;
+use crate::stored::StoredFormula;
 use cell_walk::{Interval, Mentions, Progress};
-use formula_tree::Formula;
 use sheet_grid::Sheet;
-use sheet_ops::Content;
 use ss_base::Memory;
 use std::alloc::Global;
 
 /// A formula cell, by visible indexes, and the visible areas that its formula refers to.
 #[derive(Debug, Drop)]
-pub struct Node {
+pub struct Node<'a> {
     pub row: u32,
     pub col: u32,
-    pub formula: Formula,
+    pub formula: StoredFormula<'a>,
     pub areas: Vec<Area>,
 }
 
 /// The formula cells of a sheet under numbers from 0 on, column by column, and those of each visible
 /// column.
 #[derive(Debug, Drop)]
-pub struct Graph {
-    pub nodes: Vec<Node>,
+pub struct Graph<'a> {
+    pub nodes: Vec<Node<'a>>,
     pub columns: Vec<Column>,
 }
 
-impl Mentions for Graph {
+impl Mentions for Graph<'_> {
     ghost mentions = { λ g. mentions_listed g.nodes.items g.columns.items };
 
     ghost rest = { λ g. mentions_left g.nodes.items g.columns.items };
@@ -53,35 +52,38 @@ impl Mentions for Graph {
 }
 
 /// The node of a cell by its visible indexes, where it is a formula cell.
-fn node_at(alloc: Global, sheet: &Sheet, row: u32, col: u32) -> Result<Option<Node>, Memory>
+fn node_at<'a>(
+    alloc: Global,
+    sheet: &'a Sheet,
+    row: u32,
+    col: u32,
+) -> Result<Option<Node<'a>>, Memory>
     ensures { IfOk result (λ found. IsFoundAt (placed_in sheet.now) row col found) }
 {
-    match content_seen(sheet, row, col)? {
-        Content::Formula(formula) => {
-            let mut areas = Vec::new(alloc);
-            push_areas(&mut areas, sheet, formula.expr())?;
-            Ok(Some(Node {
-                row,
-                col,
-                formula,
-                areas,
-            }))
-        }
-        _ => Ok(None),
-    }
+    let Some(formula) = formula_seen(sheet, row, col) else {
+        return Ok(None);
+    };
+    let mut areas = Vec::new(alloc);
+    push_areas(&mut areas, sheet, formula.expr())?;
+    Ok(Some(Node {
+        row,
+        col,
+        formula: StoredFormula::new(sheet, formula),
+        areas,
+    }))
 }
 
-impl Graph {
+impl<'a> Graph<'a> {
     /// A further node, under the next number. It stands below the others of its column.
-    fn add(&mut self, node: Node) -> Result<(), Memory>
+    fn add(&mut self, node: Node<'a>) -> Result<(), Memory>
         requires col { node.col < length self.old.columns.items }
         requires below { AllByRecursion (λ s. s.row < node.row) (column_at self.old.columns.items node.col) }
         requires counted { EndsAt (column_at self.old.columns.items node.col) (length self.old.nodes.items) }
         requires row { node.row < 16000 }
         requires few { length self.old.nodes.items < 2 ^ 31 }
-        ensures counted { OnOk result (EndsAt (column_at self.new.columns.items node.col) (length self.new.nodes.items)) }
-        ensures nodes { OnOk result (self.new.nodes.items ≡ self.old.nodes.items ++ node ∷ []) }
-        ensures numbers { OnOk result (number_in self.new.columns.items ≡ number_set (number_in self.old.columns.items) node.row node.col (length self.old.nodes.items)) }
+        ensures counted { OnOk result (EndsAt (column_at self.new.columns.items node.entry.col) (length self.new.nodes.items)) }
+        ensures nodes { OnOk result (self.new.nodes.items ≡ self.old.nodes.items ++ node.entry ∷ []) }
+        ensures numbers { OnOk result (number_in self.new.columns.items ≡ number_set (number_in self.old.columns.items) node.entry.row node.entry.col (length self.old.nodes.items)) }
         ensures len { OnOk result (length self.new.columns.items ≡ length self.old.columns.items) }
         ensures rising { OnOk result (AllByRecursion IsRising self.old.columns.items → AllByRecursion IsRising self.new.columns.items) }
     {
@@ -92,7 +94,7 @@ impl Graph {
     }
 
     /// Adds the node of a further cell of the last column, where it is a formula cell.
-    fn pass(&mut self, alloc: Global, sheet: &Sheet, row: u32, col: u32) -> Result<(), Memory>
+    fn pass(&mut self, alloc: Global, sheet: &'a Sheet, row: u32, col: u32) -> Result<(), Memory>
         requires col { col < length self.old.columns.items }
         requires row { row < 16000 }
         requires few { length self.old.nodes.items < 2 ^ 31 }
@@ -115,7 +117,7 @@ impl Graph {
     fn pass_col(
         &mut self,
         alloc: Global,
-        sheet: &Sheet,
+        sheet: &'a Sheet,
         col: u32,
         rows: &[u32],
     ) -> Result<(), Memory>
@@ -138,10 +140,10 @@ impl Graph {
     }
 }
 
-/// The graph of the visible formula cells of a sheet. It takes time with the lines, with the filled
-/// cells and the logarithm of their number, and with the formulas; memory with the formulas and the
-/// columns.
-pub fn graph_of(alloc: Global, sheet: &Sheet) -> Result<Graph, Memory>
+/// The graph of the visible formula cells of a sheet, which copies no formula. It takes time with the
+/// lines, with the filled cells and the logarithm of their number, and with the formulas; memory with
+/// the formulas' references and the columns.
+pub fn graph_of<'a>(alloc: Global, sheet: &'a Sheet) -> Result<Graph<'a>, Memory>
     ensures few { IfOk result (λ g. length g.nodes.items < 2 ^ 32) }
     ensures graph { IfOk result (λ g. IsGraph (placed_in sheet.now) g.nodes.items (number_in g.columns.items)) }
     // What is listed column by column is what the formulas mention.

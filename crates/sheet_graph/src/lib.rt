@@ -6,9 +6,13 @@ mod by_column;
 mod cells;
 mod columns;
 mod graph;
+mod placing;
 mod references;
+mod stored;
 
 pub use areas::Area;
-pub use cells::{content_seen, filled_in_row};
+pub use cells::filled_in_row;
 pub use columns::{Column, FormulaCell};
 pub use graph::{Graph, Node, graph_of};
+pub use placing::{cell_placed, cols_placed, rows_placed};
+pub use stored::StoredFormula;

@@ -2,19 +2,22 @@ ghost use Rattle.std.specs.Prelude.{◌≡◌, ◌++◌, OnOk, option_to_list};
 ghost use Rattle.std.specs.List.{flat_map};
 ghost use Rattle.marked_lines.specs.Marks.{visible_of, span_of};
 ghost use Rattle.sheet_grid.specs.Values.{placed_in};
-ghost use Rattle.sheet_graph.specs.Areas.{area_at, area_over, expr_areas};
+ghost use Rattle.sheet_graph.specs.Areas.{area_at, area_over};
+ghost use Rattle.sheet_graph.specs.Placing.{spot_placed, span_placed, stored_areas};
 
 use crate::areas::Area;
+use crate::placing::{cell_placed, cols_placed, rows_placed};
 use formula_tree::Expr;
 use sheet_grid::Sheet;
 use ss_base::{Memory, Span, Spot};
 
-/// The area of a cell, unless it is hidden.
+/// The area of the cell that a stored reference means, unless it is hidden.
 fn area_at(sheet: &Sheet, spot: &Spot) -> Option<Area>
-    ensures { option_to_list result ≡ area_at (visible_of (placed_in sheet.now).rows spot.now.row) (visible_of (placed_in sheet.now).cols spot.now.col) }
+    ensures { option_to_list result ≡ area_at (visible_of (placed_in sheet.now).rows (spot_placed sheet.now spot.now).row) (visible_of (placed_in sheet.now).cols (spot_placed sheet.now spot.now).col) }
 {
-    let row = sheet.row_seen(spot.row)?;
-    let col = sheet.col_seen(spot.col)?;
+    let place = cell_placed(sheet, spot);
+    let row = sheet.row_seen(place.0)?;
+    let col = sheet.col_seen(place.1)?;
     Some(Area {
         top: row,
         left: col,
@@ -23,12 +26,14 @@ fn area_at(sheet: &Sheet, spot: &Spot) -> Option<Area>
     })
 }
 
-/// The visible area of a range, unless there is none.
+/// The visible area of the range that a stored reference means, unless there is none.
 fn area_over(sheet: &Sheet, span: &Span) -> Option<Area>
-    ensures { option_to_list result ≡ area_over (span_of (placed_in sheet.now).rows span.now.top span.now.bottom) (span_of (placed_in sheet.now).cols span.now.left span.now.right) }
+    ensures { option_to_list result ≡ area_over (span_of (placed_in sheet.now).rows (span_placed sheet.now span.now).top (span_placed sheet.now span.now).bottom) (span_of (placed_in sheet.now).cols (span_placed sheet.now span.now).left (span_placed sheet.now span.now).right) }
 {
-    let (top, bottom) = sheet.rows_seen(span.top, span.bottom)?;
-    let (left, right) = sheet.cols_seen(span.left, span.right)?;
+    let rows = rows_placed(sheet, span);
+    let (top, bottom) = sheet.rows_seen(rows.0, rows.1)?;
+    let cols = cols_placed(sheet, span);
+    let (left, right) = sheet.cols_seen(cols.0, cols.1)?;
     Some(Area {
         top,
         left,
@@ -47,10 +52,10 @@ fn push(areas: &mut Vec<Area>, area: Option<Area>) -> Result<(), Memory>
     Ok(())
 }
 
-/// Appends the areas that an expression refers to, from left to right.
+/// Appends the areas that a stored expression refers to, from left to right.
 #[cycle(refer)]
 pub(crate) fn push_areas(areas: &mut Vec<Area>, sheet: &Sheet, expr: &Expr) -> Result<(), Memory>
-    ensures { OnOk result (areas.new.items ≡ areas.old.items ++ expr_areas (placed_in sheet.now).rows (placed_in sheet.now).cols expr.now) }
+    ensures { OnOk result (areas.new.items ≡ areas.old.items ++ stored_areas sheet.now expr.now) }
 {
     match expr {
         Expr::Cell(spot) => push(areas, area_at(sheet, spot)),
@@ -68,7 +73,7 @@ pub(crate) fn push_areas(areas: &mut Vec<Area>, sheet: &Sheet, expr: &Expr) -> R
 /// The same of several expressions.
 #[cycle(refer)]
 fn push_all(areas: &mut Vec<Area>, sheet: &Sheet, exprs: &[Expr]) -> Result<(), Memory>
-    ensures { OnOk result (areas.new.items ≡ areas.old.items ++ flat_map (expr_areas (placed_in sheet.now).rows (placed_in sheet.now).cols) exprs.now) }
+    ensures { OnOk result (areas.new.items ≡ areas.old.items ++ flat_map (stored_areas sheet.now) exprs.now) }
 {
     for e in exprs {
         push_areas(areas, sheet, e)?;

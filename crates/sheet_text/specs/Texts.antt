@@ -1,5 +1,5 @@
 -- The texts that are printed of a sheet.
-use Rattle.std.specs.Prelude.{ℕ, suc, List, [], ◌∷◌, ◌++◌, codes, decimal}
+use Rattle.std.specs.Prelude.{ℕ, suc, ◌≡◌, ◌≢◌, List, [], ◌∷◌, ◌++◌, codes, decimal, Result, Ok, Err}
 use Rattle.cell_addr.specs.Cells.{address}
 use Rattle.sheet_ops.specs.declared.edit.EditErr.{EditErr}
 use Rattle.sheet_ops.specs.declared.edit.EditErr.TheVariants as fault
@@ -54,3 +54,13 @@ cause_text fault.Memory = []
 -- the line of a refused edit, by the number of its line in the script
 abbrev pub refusal_text : ℕ → EditErr → List ℕ
 refusal_text line cause = codes "refused " ++ (decimal line ++ (32 ∷ cause_text cause ++ 10 ∷ []))
+
+-- of what an edit comes to the line of its refusal alone
+abbrev pub refusal_of : {A : Type 0} → ℕ → Result A EditErr → List ℕ
+refusal_of line (Ok done) = []
+refusal_of line (Err e) = refusal_text line e
+
+-- what is printed of an edit's answer
+abbrev pub TextOf : Result (Unit {0}) EditErr → ℕ → List ℕ → Type 0
+TextOf (Ok done) line text = text ≡ []
+TextOf (Err e) line text = (e ≢ fault.Memory) × (text ≡ refusal_text line e)

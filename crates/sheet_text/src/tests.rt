@@ -1,4 +1,6 @@
-use crate::{head, read_head, refusal, server_head, sheet_lines, value_lines, values_head};
+use crate::{
+    all_text, answer_text, head, part_text, range_text, refusal, server_head, sheet_lines,
+};
 use sheet_grid::Sheet;
 use sheet_ops::EditErr;
 use sheet_value::{Grid, Value};
@@ -58,31 +60,53 @@ fn filled(alloc: Global) -> Result<Grid, Memory> {
     Ok(grid)
 }
 
+const B1_TO_B2: Span = Span {
+    top: 0,
+    left: 1,
+    bottom: 1,
+    right: 1,
+    abs_top: false,
+    abs_left: false,
+    abs_bottom: false,
+    abs_right: false,
+};
+
 #[test]
 fn prints_values(rt: HostRuntime) -> Result<(), Fail> {
     let alloc = rt.alloc();
     let grid = filled(alloc)?;
-    let size = grid.size();
-    assert!(rt; size.rows == 2 && size.cols == 2);
-    let first = values_head(alloc, 3, size)?;
     assert_eq!(rt;
-        value_lines(alloc, &first, &grid, 0..2, 0..2)?.bytes(),
+        all_text(alloc, 3, &grid)?.bytes(),
         b"values at 3 rows 2 columns 2\nB1 -30\nA2 \"a\"\"b\"\nB2 #CIRC!\n".as_slice()
     );
-    let range = Span {
-        top: 0,
-        left: 1,
-        bottom: 1,
-        right: 1,
-        abs_top: false,
-        abs_left: false,
-        abs_bottom: false,
-        abs_right: false,
-    };
-    let first = read_head(alloc, &Txt::new(alloc, b"ann")?, 3, &range)?;
+    let name = Txt::new(alloc, b"ann")?;
     assert_eq!(rt;
-        value_lines(alloc, &first, &grid, 0..2, 1..2)?.bytes(),
+        range_text(alloc, 9, &name, &B1_TO_B2, 3, &grid)?.bytes(),
         b"read ann at 3 B1:B2\nB1 -30\nB2 #CIRC!\n".as_slice()
+    );
+    Ok(())
+}
+
+#[test]
+fn prints_a_part_by_its_addresses(rt: HostRuntime) -> Result<(), Fail> {
+    let alloc = rt.alloc();
+    let mut part = Grid::new(alloc, Size { rows: 2, cols: 1 })?;
+    part.put(0, 0, Value::Num(-30))?;
+    part.put(1, 0, Value::Err(CalcErr::Circ))?;
+    assert_eq!(rt;
+        part_text(alloc, &Txt::new(alloc, b"ann")?, &B1_TO_B2, 3, &part)?.bytes(),
+        b"read ann at 3 B1:B2\nB1 -30\nB2 #CIRC!\n".as_slice()
+    );
+    Ok(())
+}
+
+#[test]
+fn tells_an_answer(rt: HostRuntime) -> Result<(), Fail> {
+    let alloc = rt.alloc();
+    assert!(rt; answer_text(alloc, 4, Ok(()))?.bytes().is_empty());
+    assert_eq!(rt;
+        answer_text(alloc, 4, Err(EditErr::Spent))?.bytes(),
+        b"refused 4 spent\n".as_slice()
     );
     Ok(())
 }

@@ -2,9 +2,10 @@ ghost use Rattle.std.specs.Prelude.{◌≡◌, ◌<◌, ◌≤◌, ◌-◌, ◌+
 ghost use Rattle.std.specs.List.{range_with_len};
 ghost use Rattle.cell_addr.specs.Cells.{address};
 ghost use Rattle.formula_tree.specs.Printed.{quoted};
-ghost use Rattle.sheet_value.specs.Tables.{value_at};
+ghost use Rattle.std.specs.Option.{option_copied};
+ghost use Rattle.sheet_value.specs.Tables.{filled};
 ghost use Rattle.sheet_text.specs.Texts.{cell_line};
-ghost use Rattle.sheet_text.specs.Values.{is_one_cell, lines_in_row, range_text, read_head_text, value_text, values_head_text, values_text};
+ghost use Rattle.sheet_text.specs.Values.{is_one_cell, lines_in_row, range_text, read_head_text, value_text, values_from, values_head_text, values_text};
 
 use crate::lines::{push_address, push_cell};
 use formula_print::push_quoted;
@@ -16,7 +17,7 @@ use std::ops::Range;
 
 /// The line above a sheet's values, without its line feed: the length of the history that was
 /// evaluated, and how many rows and columns are visible.
-pub fn values_head(alloc: Global, length: u32, size: Size) -> Result<Txt, Memory>
+pub(crate) fn values_head(alloc: Global, length: u32, size: Size) -> Result<Txt, Memory>
     ensures { IfOk result (λ t. t ≡ values_head_text length size) }
 {
     let text = format!(in alloc;
@@ -28,7 +29,7 @@ pub fn values_head(alloc: Global, length: u32, size: Size) -> Result<Txt, Memory
 
 /// The line above the values in a range, without its line feed: the name of the site that reads, the
 /// length of the history that was evaluated, and the range by its addresses, one cell by a single one.
-pub fn read_head(alloc: Global, name: &Txt, length: u32, range: &Span) -> Result<Txt, Memory>
+pub(crate) fn read_head(alloc: Global, name: &Txt, length: u32, range: &Span) -> Result<Txt, Memory>
     requires last_row { range.now.bottom < 9999999 }
     requires last_col { range.now.right < 18278 }
     requires rows { range.now.top ≤ range.now.bottom }
@@ -65,24 +66,46 @@ fn is_one_cell(range: &Span) -> bool
     range.top == range.bottom && range.left == range.right
 }
 
-/// A first line, and below it a line for each value of these rows and columns that isn't empty, row
-/// by row, in a row by columns: the address, a space and the value. It takes time with the number of
-/// these cells.
-pub fn value_lines(
+/// Values by their addresses.
+#[derive(Drop)]
+pub(crate) struct Values<'a> {
+    pub grid: &'a Grid,
+    /// The address of the grid's first value.
+    pub top: u32,
+    pub left: u32,
+}
+
+impl Values<'_> {
+    /// The value with this address, and `None` exactly where it is empty or the grid has none there.
+    fn at(&self, row: u32, col: u32) -> Option<&Value>
+        requires row { self.now.top ≤ row }
+        requires col { self.now.left ≤ col }
+        ensures { option_copied result ≡ filled (values_from self.now.top self.now.left self.now.grid.now row col) }
+    {
+        self.grid.at(row - self.top, col - self.left)
+    }
+}
+
+/// A first line, and below it a line for each value with these addresses that isn't empty, row by row,
+/// in a row by columns: the address, a space and the value. It takes time with the number of these
+/// cells.
+pub(crate) fn value_lines(
     alloc: Global,
     head: &Txt,
-    grid: &Grid,
+    values: &Values,
     rows: Range<u32>,
     cols: Range<u32>,
 ) -> Result<Txt, Memory>
-    requires rows { rows.end ≤ grid.now.size.rows }
-    requires cols { cols.end ≤ grid.now.size.cols }
-    ensures { IfOk result (λ t. t ≡ values_text head.now grid.now (range_with_len rows.start (rows.end - rows.start)) (range_with_len cols.start (cols.end - cols.start))) }
+    requires first_row { values.now.top ≤ rows.start }
+    requires first_col { values.now.left ≤ cols.start }
+    requires rows { rows.end ≤ 9999999 }
+    requires cols { cols.end ≤ 18278 }
+    ensures { IfOk result (λ t. t ≡ values_text head.now (values_from values.now.top values.now.left values.now.grid.now) (range_with_len rows.start (rows.end - rows.start)) (range_with_len cols.start (cols.end - cols.start))) }
 {
     let mut out = Vec::from_slice(alloc, head.bytes())?;
     out.push(b'\n')?;
     for row in rows.start..rows.end {
-        push_values(alloc, &mut out, grid, row, cols.start, cols.end)?;
+        push_values(alloc, &mut out, values, row, cols.start, cols.end)?;
     }
     Ok(Txt::from_vec(out))
 }
@@ -91,19 +114,19 @@ pub fn value_lines(
 fn push_values(
     alloc: Global,
     out: &mut Vec<u8>,
-    grid: &Grid,
+    values: &Values,
     row: u32,
     first: u32,
     end: u32,
 ) -> Result<(), Memory>
-    requires row { row < grid.now.size.rows }
-    requires cols { end ≤ grid.now.size.cols }
-    ensures { OnOk result (out.new.items ≡ out.old.items ++ lines_in_row grid.now (range_with_len first (end - first)) row) }
+    requires first_row { values.now.top ≤ row }
+    requires first_col { values.now.left ≤ first }
+    requires row { row < 9999999 }
+    requires cols { end ≤ 18278 }
+    ensures { OnOk result (out.new.items ≡ out.old.items ++ lines_in_row (values_from values.now.top values.now.left values.now.grid.now) (range_with_len first (end - first)) row) }
 {
-    // There are at most 16,000 rows and columns.
-    let _size = grid.size();
     for col in first..end {
-        push_value(alloc, out, grid, row, col)?;
+        push_value(alloc, out, values, row, col)?;
     }
     Ok(())
 }
@@ -112,15 +135,17 @@ fn push_values(
 fn push_value(
     alloc: Global,
     out: &mut Vec<u8>,
-    grid: &Grid,
+    values: &Values,
     row: u32,
     col: u32,
 ) -> Result<(), Memory>
+    requires first_row { values.now.top ≤ row }
+    requires first_col { values.now.left ≤ col }
     requires row { row < 9999999 }
     requires col { col < 18278 }
-    ensures { OnOk result (out.new.items ≡ out.old.items ++ cell_line row col (value_text (value_at grid.now row col))) }
+    ensures { OnOk result (out.new.items ≡ out.old.items ++ cell_line row col (value_text (values_from values.now.top values.now.left values.now.grid.now row col))) }
 {
-    let Some(value) = grid.at(row, col) else {
+    let Some(value) = values.at(row, col) else {
         return Ok(());
     };
     let text = text_of_value(alloc, value)?;

@@ -1,8 +1,8 @@
-use Rattle.std.proofs.Common.{◌≡◌, ◌∙◌, ◌++◌, List, ℕ, [], ◌∷◌, take, length, sym, ap, subst, arith, slice_set, slice_index_or}
+use Rattle.std.proofs.Common.{◌∙◌, ◌++◌, List, ℕ, [], ◌∷◌, take, sym, ap, subst, arith, slice_set, slice_index_or}
 use Rattle.std.proofs.lemmas.List.{take_more, take_all, length-set, get_or_default}
 use Rattle.sheet_grid.specs.Values.{placed_in}
 use Rattle.sheet_grid.specs.Cells.{visible_size}
-use Rattle.sheet_graph.specs.Filled.{rows_in_column, AreFilledTo}
+use Rattle.sheet_graph.specs.Filled.{AreFilledTo}
 use Rattle.sheet_graph.proofs.Building.{at_in, not_before}
 use Rattle.sheet_graph.proofs.Gathered.{one_more, row_gathered}
 use Rattle.sheet_graph.proofs.by_column.push_row.Goals as goal

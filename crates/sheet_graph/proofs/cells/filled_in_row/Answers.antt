@@ -14,10 +14,10 @@ filled-requires c = visible_below (placed_in c.args.sheet.now).rows c.args.row c
 pub returns-in_default : goal.returns-in_default
 returns-in_default c =
     let P = placed_in c.args.sheet.now in
-    subst (λ (cs : List ℕ). HoldsFilled P c.args.row (length (visible_places P.cols)) cs) (sym c.new-seen.ensures.items) (no_row_filled P c.args.row (length (visible_places P.cols)) (sym c.in_default.ensures))
+    subst (λ (cs : List ℕ). HoldsFilled P c.args.row (length (visible_places P.cols)) cs) (sym c.new.ensures.items) (no_row_filled P c.args.row (length (visible_places P.cols)) (sym c.in_default.ensures))
 
 pub loop-col-init : goal.loop-col-init
-loop-col-init c = c.new-seen.ensures.items
+loop-col-init c = c.in_ok-seen.ensures.items
 
 pub loop-col-preserved : goal.loop-col-preserved
 loop-col-preserved c =

@@ -1,5 +1,5 @@
 use Rattle.std.proofs.Common.{◌∙◌}
-use Rattle.script_run.specs.Transcript.{range_values_text}
+use Rattle.sheet_text.specs.Values.{range_values_text}
 use Rattle.script_run.proofs.Outcomes.{if_ok}
 use Rattle.script_run.proofs.published.PublishedSheet.range_text.Goals as goal
 

@@ -1,6 +1,7 @@
 use Rattle.std.proofs.Common.{◌<◌, sym, ◌∙◌, ap, subst, refl, length}
 use Rattle.script_run.specs.World.{World, reading}
-use Rattle.script_run.specs.Transcript.{range_values_text, published_values}
+use Rattle.sheet_text.specs.Values.{range_values_text}
+use Rattle.script_run.specs.Transcript.{published_values}
 use Rattle.script_run.proofs.Named.{found_again}
 use Rattle.script_run.proofs.Standing.{seat_is}
 use Rattle.script_run.proofs.Publishes.{formed, run_published, evaluated_stands, evaluated_run, range_printed, read_run, read_world}

@@ -1,6 +1,7 @@
 use Rattle.std.proofs.Common.{◌∙◌, ap, refl}
 use Rattle.script_run.specs.World.{World}
-use Rattle.script_run.specs.Transcript.{all_text, published_values}
+use Rattle.sheet_text.specs.Values.{all_text}
+use Rattle.script_run.specs.Transcript.{published_values}
 use Rattle.script_run.proofs.Outcomes.{if_ok}
 use Rattle.script_run.proofs.Publishes.{formed, evaluated_run, all_printed}
 use Rattle.script_run.proofs.run.Run.values.Goals as goal

@@ -1,8 +1,6 @@
 use Rattle.std.proofs.Common.{◌≡◌, ◌+◌, ◌∙◌, List, ap, sym, subst, arith}
-use Rattle.std.specs.Prelude.{◌-◌}
-use Rattle.cell_walk.specs.Walks.{cells_from}
 use Rattle.sheet_graph.specs.declared.columns.FormulaCell.{FormulaCell}
-use Rattle.sheet_graph.specs.Columns.{IsColumn, seats_above, numbers_between}
+use Rattle.sheet_graph.specs.Columns.{IsColumn}
 use Rattle.sheet_graph.proofs.Seats.{run_found, none_between}
 use Rattle.sheet_graph.proofs.columns.Column.between.Goals as goal
 

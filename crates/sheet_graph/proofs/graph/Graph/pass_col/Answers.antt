@@ -1,10 +1,9 @@
-use Rattle.std.proofs.Common.{◌≡◌, ◌≤◌, ◌<◌, ◌+◌, List, ℕ, take, length, refl, sym, ◌∙◌, subst, arith}
+use Rattle.std.proofs.Common.{List, ℕ, take, length, refl, sym, ◌∙◌, subst, arith}
 use Rattle.std.proofs.lemmas.List.{take_more, take_all}
-use Rattle.marked_lines.specs.Marks.{visible_places}
 use Rattle.sheet_grid.specs.Values.{placed_in}
 use Rattle.sheet_grid.specs.Cells.{visible_size}
 use Rattle.sheet_graph.specs.declared.columns.FormulaCell.{FormulaCell}
-use Rattle.sheet_graph.specs.Columns.{EndsAt, column_at, number_in}
+use Rattle.sheet_graph.specs.Columns.{EndsAt, number_in}
 use Rattle.sheet_graph.specs.Graphs.{IsGraphTo}
 use Rattle.sheet_graph.proofs.Building.{at_in, up_before, up_few, none_yet, col_done}
 use Rattle.sheet_graph.proofs.graph.Graph.pass_col.Goals as goal

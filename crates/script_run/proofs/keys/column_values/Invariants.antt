@@ -1,8 +1,0 @@
-use Rattle.std.proofs.Common.{◌≡◌, ℕ, ◌-◌}
-use Rattle.std.specs.Prelude.{map}
-use Rattle.std.specs.List.{range_with_len}
-use Rattle.sheet_value.specs.Tables.{value_at}
-use Rattle.script_run.proofs.keys.column_values.Given as goal
-
-abbrev pub invariant-loop-row : goal.invariant-loop-row
-invariant-loop-row l = l.found.items ≡ map (λ (row : ℕ). value_at l.grid row l.col) (range_with_len l.first (l.row - l.first))

@@ -1,0 +1,9 @@
+//! The keys by which a sort orders its rows: values of the sheet that its author sees.
+#![tactic(auto)]
+
+mod edit_keys;
+
+pub use edit_keys::keys;
+
+#[cfg(test)]
+mod tests;
