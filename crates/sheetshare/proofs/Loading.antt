@@ -5,7 +5,7 @@ use Rattle.ss_base.specs.Streams.{AddsBack, TakesPrefix}
 use Rattle.words.specs.declared.Call.{Call}
 use Rattle.words.specs.declared.Call.TheVariants as call
 use Rattle.generated_run.specs.Summary.{IsSummary}
-use Rattle.sheetshare.specs.declared.play.Status.TheVariants as status
+use Rattle.run_status.specs.declared.status.Status.TheVariants as status
 use Rattle.sheetshare.specs.Played.{WroteSummary}
 
 added : (before piece : List ℕ) (new : Option (List ℕ)) → AddsBack (Some before) new piece → new ≡ Some (before ++ piece)

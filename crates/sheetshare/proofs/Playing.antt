@@ -16,8 +16,8 @@ use Rattle.script_run.specs.States.{RunState, first_table, TurnGives}
 use Rattle.script_run.proofs.Turns.{ended_open}
 use Rattle.sheetshare.specs.declared.play.Flow.{Flow}
 use Rattle.sheetshare.specs.declared.play.Flow.TheVariants as flow
-use Rattle.sheetshare.specs.declared.play.Status.{Status}
-use Rattle.sheetshare.specs.declared.play.Status.TheVariants as status
+use Rattle.run_status.specs.declared.status.Status.{Status}
+use Rattle.run_status.specs.declared.status.Status.TheVariants as status
 use Rattle.sheetshare.specs.LineGives.{LineGives}
 use Rattle.sheetshare.specs.Played.{Wrote, WrotePrefix, WroteFront, Played, StopsAs}
 

@@ -1,4 +1,3 @@
 pub mod Played
 pub mod Places
-pub mod Exits
 pub mod LineGives

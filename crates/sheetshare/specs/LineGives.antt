@@ -6,8 +6,8 @@ use Rattle.script_run.specs.declared.state.Outcome.TheVariants as outcome
 use Rattle.script_run.specs.States.{RunState, TurnGives}
 use Rattle.sheetshare.specs.declared.play.Flow.{Flow}
 use Rattle.sheetshare.specs.declared.play.Flow.TheVariants as flow
-use Rattle.sheetshare.specs.declared.play.Status.{Status}
-use Rattle.sheetshare.specs.declared.play.Status.TheVariants as status
+use Rattle.run_status.specs.declared.status.Status.{Status}
+use Rattle.run_status.specs.declared.status.Status.TheVariants as status
 
 -- all of its text was written
 pub record Printed (old new : RunState) (n : ℕ) (line : List ℕ) (before after : Option (List ℕ)) : Type 0 where

@@ -5,8 +5,8 @@ use Rattle.script_run.specs.Transcript.{transcript}
 use Rattle.words.specs.declared.Call.{Call}
 use Rattle.words.specs.declared.Call.TheVariants as call
 use Rattle.generated_run.specs.Summary.{IsSummary}
-use Rattle.sheetshare.specs.declared.play.Status.{Status}
-use Rattle.sheetshare.specs.declared.play.Status.TheVariants as status
+use Rattle.run_status.specs.declared.status.Status.{Status}
+use Rattle.run_status.specs.declared.status.Status.TheVariants as status
 
 -- all of the transcript went in behind what was there
 abbrev pub Wrote : Script → List ℕ → Option (List ℕ) → Type 0

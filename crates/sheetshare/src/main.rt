@@ -1,13 +1,12 @@
 //! Several sites edit one sheet: runs a script of edits, deliveries and reads.
 #![tactic(auto)]
 
-mod exit;
 mod play;
 #[cfg(test)]
 mod tests;
 
-use crate::exit::code;
-use crate::play::{Status, play};
+use crate::play::play;
+use run_status::Status;
 use ss_base::{StdSink, StdSource, Txt};
 use std::env;
 use std::io::ErrorKind;
@@ -19,7 +18,7 @@ fn main(rt: HostRuntime) -> ExitCode {
         // The exit status tells the same where standard error takes no line.
         let _ = eprintln!(rt; "sheetshare: {status}");
     }
-    ExitCode::from(code(status))
+    ExitCode::from(status.code())
 }
 
 /// Plays the script on standard input, and prints to standard output, neither with a buffer between.

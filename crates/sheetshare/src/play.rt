@@ -12,28 +12,13 @@ ghost use Rattle.sheetshare.specs.Places.{FaultedAt, EndedAt};
 ghost use Rattle.sheetshare.specs.Played.{Played, StopsAs, WroteSummary, RunsToItsEnd, IsUnlessMemory, status_of};
 
 use generated_run::{Loaded, load_summary};
+use run_status::Status;
 use script_read::{ScriptErr, ScriptKind};
 use script_run::laws::publishing_never_goes_back;
 use script_run::{Outcome, Room, ScriptState};
 use ss_base::{Failed, LineErr, LineFeed, Memory, Sink, Source, Turn, Txt, write_all};
 use std::alloc::Global;
 use words::{Call, WordsErr, read_words};
-
-/// How a run ended. The program ends with the number of the status, counted from 0 in this order.
-#[derive(Clone, Copy, Debug, PartialEq, Eq)]
-pub enum Status {
-    /// The script was read up to its line `end`, or the generated run was done, and all was written.
-    Done,
-    /// A line was refused, or the input ended before `end`.
-    Script(ScriptErr),
-    ReadFault,
-    WriteFault,
-    Memory,
-    /// The words on the command line ask for nothing.
-    Usage,
-    /// The line with this number is too long.
-    TooLong(u32),
-}
 
 /// What a line leads to that no fault stops.
 #[derive(Clone, Copy, Debug)]

@@ -1,23 +1,40 @@
 ghost use Rattle.std.specs.Prelude.{◌≡◌, Some};
-ghost use Rattle.sheetshare.specs.Exits.{exit_code, stop_text, status_text};
+ghost use Rattle.run_status.specs.Exits.{exit_code, stop_text, status_text};
 
-use crate::play::Status;
-use script_read::ScriptKind;
+use script_read::{ScriptErr, ScriptKind};
 use std::fmt;
 use std::fmt::{Display, Formatter};
 
-/// The number that the program ends with.
-pub fn code(status: Status) -> u8
-    ensures { result ≡ exit_code status }
-{
-    match status {
-        Status::Done => 0,
-        Status::Script(_) => 1,
-        Status::ReadFault => 2,
-        Status::WriteFault => 3,
-        Status::Memory => 4,
-        Status::Usage => 5,
-        Status::TooLong(_) => 6,
+/// How a run ended. The program ends with the number of the status, counted from 0 in this order.
+#[derive(Clone, Copy, Debug, PartialEq, Eq)]
+pub enum Status {
+    /// The script was read up to its line `end`, or the generated run was done, and all was written.
+    Done,
+    /// A line was refused, or the input ended before `end`.
+    Script(ScriptErr),
+    ReadFault,
+    WriteFault,
+    Memory,
+    /// The words on the command line ask for nothing.
+    Usage,
+    /// The line with this number is too long.
+    TooLong(u32),
+}
+
+impl Status {
+    /// The number that the program ends with.
+    pub fn code(self) -> u8
+        ensures { result ≡ exit_code self }
+    {
+        match self {
+            Status::Done => 0,
+            Status::Script(_) => 1,
+            Status::ReadFault => 2,
+            Status::WriteFault => 3,
+            Status::Memory => 4,
+            Status::Usage => 5,
+            Status::TooLong(_) => 6,
+        }
     }
 }
 

@@ -2,8 +2,8 @@
 use Rattle.std.specs.Prelude.{ℕ, List, ◌++◌, codes, decimal}
 use Rattle.script_read.specs.declared.script.ScriptKind.{ScriptKind}
 use Rattle.script_read.specs.declared.script.ScriptKind.TheVariants as kind
-use Rattle.sheetshare.specs.declared.play.Status.{Status}
-use Rattle.sheetshare.specs.declared.play.Status.TheVariants as status
+use Rattle.run_status.specs.declared.status.Status.{Status}
+use Rattle.run_status.specs.declared.status.Status.TheVariants as status
 
 abbrev pub exit_code : Status → ℕ
 exit_code status.Done = 0
