@@ -1,0 +1,5 @@
+pub mod Deliveries
+pub mod Holding
+pub mod PushedOwn
+mod Working
+mod Sends
