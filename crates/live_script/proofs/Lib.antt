@@ -1,0 +1,7 @@
+mod Addressed
+mod Appending
+mod Faults
+mod Turns
+mod Holding
+mod Reached
+mod SiteLines
