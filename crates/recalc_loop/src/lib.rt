@@ -1,0 +1,18 @@
+//! The recalculation beside the sites: what evaluates the history and publishes the values.
+#![tactic(auto)]
+
+mod changes;
+mod desk;
+mod evaluation;
+mod gate;
+mod hold;
+mod publishing;
+mod room;
+mod state;
+
+pub use changes::{batch_between, changes_between};
+pub use desk::{Desk, Nap, Post};
+pub use gate::{Gate, NoGate, Point};
+pub use publishing::end_all;
+pub use room::Room;
+pub use state::{DeskState, Finished};
