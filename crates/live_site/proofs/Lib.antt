@@ -1,0 +1,4 @@
+mod Doing
+mod Parts
+mod Lining
+mod Going

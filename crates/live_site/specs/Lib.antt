@@ -1,0 +1,3 @@
+pub mod SiteRuns
+pub mod Lines
+pub mod Readings
