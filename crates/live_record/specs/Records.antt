@@ -21,12 +21,12 @@ use Rattle.live_record.specs.Replays.{Beside, Done, nothing_done, Does}
 abbrev pub ShowsPrefix : Size → List Entry → ℕ → Table → Type 0
 ShowsPrefix size H l T = (l ≤ length H) × (T ≡ value_table (sheet_of size (take l H)))
 
-abbrev pub beside : Size → List Entry → ℕ → List ℕ → Beside
-beside size H site name = record { size = size; history = H; site = site; name = name; Shows = ShowsPrefix size H }
+abbrev pub beside_history : Size → List Entry → ℕ → List ℕ → Beside
+beside_history size H site name = record { size = size; history = H; site = site; name = name; Shows = ShowsPrefix size H }
 
 -- the notes of a site are those of its lines, its entries in the history are all that it made, and this is its log
 abbrev pub SiteHolds : Size → List Entry → ℕ → SiteScript → List Note → List ℕ → Type 0
-SiteHolds size H site s notes log = (end : Done) × Does (beside size H site s.name) s.lines nothing_done notes end × (end.own ≡ own_entries site H) × (end.log ≡ log)
+SiteHolds size H site s notes log = (end : Done) × Does (beside_history size H site s.name) s.lines nothing_done notes end × (end.own ≡ own_entries site H) × (end.log ≡ log)
 
 -- the same for each site, numbered from one on, and there are no notes and no log of others
 abbrev pub SitesHold : Size → List Entry → ℕ → List SiteScript → List (List Note) → List (List ℕ) → Type 0

@@ -49,8 +49,8 @@ abbrev pub own_within : Beside → ℕ → ℕ
 own_within b l = length (own_entries b.site (take l b.history))
 
 -- ---- an edit, which has no note: what it comes to on what the site sees
-abbrev pub decided : Beside → Done → Edit → Result Intent EditErr
-decided b d e = let X = view b.size b.history b.site d.taken d.own in unless_spent (operations d.own) (intended X e (keys_of X e))
+abbrev pub decided_beside : Beside → Done → Edit → Result Intent EditErr
+decided_beside b d e = let X = view b.size b.history b.site d.taken d.own in unless_spent (operations d.own) (intended X e (keys_of X e))
 
 -- an own entry more, unless the edit was refused
 abbrev pub with_own : ℕ → Done → Result Intent EditErr → Done
@@ -59,13 +59,13 @@ with_own site d (Err e) = d
 
 -- and the line of a refusal
 abbrev pub after_edit : Beside → Done → ℕ → Edit → Done
-after_edit b d line e = let answer = decided b d e in record (with_own b.site d answer) { log = d.log ++ refusal_of line answer }
+after_edit b d line e = let answer = decided_beside b d e in record (with_own b.site d answer) { log = d.log ++ refusal_of line answer }
 
 -- ---- a push of all, or of at most so many
 abbrev pub after_push : Done → Option ℕ → ℕ → Done
 after_push d count l = record d { pushed = d.pushed + at_most count (length d.own - d.pushed); pushed_to = max d.pushed_to l; known = max d.known l }
 
-pub record MayPush (b : Beside) (d : Done) (count : Option ℕ) (l : ℕ) : Type 0 where
+pub record MayNotePush (b : Beside) (d : Done) (count : Option ℕ) (l : ℕ) : Type 0 where
   pub within : l ≤ length b.history
   pub holds : own_within b l ≡ (after_push d count l).pushed
   pub later : d.known ≤ l
@@ -79,7 +79,7 @@ abbrev pub PullsSoMany : Beside → Done → Option ℕ → ℕ → Type 0
 PullsSoMany b d None l = (d.pushed_to ≤ l) × (own_within b l ≡ d.pushed)
 PullsSoMany b d (Some count) l = (l ≤ d.taken + count) × (min (d.taken + count) d.pushed_to ≤ l) × (own_within b l ≤ d.pushed)
 
-pub record MayPull (b : Beside) (d : Done) (count : Option ℕ) (l : ℕ) : Type 0 where
+pub record MayNotePull (b : Beside) (d : Done) (count : Option ℕ) (l : ℕ) : Type 0 where
   pub within : l ≤ length b.history
   pub from : d.taken ≤ l
   pub so_many : PullsSoMany b d count l
@@ -89,7 +89,7 @@ abbrev pub after_sync : Done → ℕ → Done
 after_sync d l = record d { pushed = length d.own; read = max d.read l }
 
 -- values of so many entries are on show, and all own entries are among these
-pub record MaySync (b : Beside) (d : Done) (l : ℕ) : Type 0 where
+pub record MayNoteSync (b : Beside) (d : Done) (l : ℕ) : Type 0 where
   pub shown : (T : Table) × b.Shows l T
   pub holds : length d.own ≤ own_within b l
 
@@ -97,7 +97,7 @@ pub record MaySync (b : Beside) (d : Done) (l : ℕ) : Type 0 where
 abbrev pub after_read : Beside → Done → ℕ → Span → ℕ → Table → Done
 after_read b d line range l T = record d { read = max d.read l; log = d.log ++ range_values_text line b.name range l T }
 
-pub record MayRead (b : Beside) (d : Done) (l : ℕ) (T : Table) : Type 0 where
+pub record MayNoteRead (b : Beside) (d : Done) (l : ℕ) (T : Table) : Type 0 where
   pub later : d.read ≤ l
   pub shown : b.Shows l T
 
@@ -109,11 +109,11 @@ Notes line k l notes rest = notes ≡ record { line = line; kind = k; length = l
 -- what a line has the site do, with the notes before it and those that are left: each line but an edit has one
 abbrev pub DoesAction : Beside → ℕ → Action → Done → List Note → Done → List Note → Type 0
 DoesAction b line (action.Edit e) d notes d' rest = (rest ≡ notes) × (d' ≡ after_edit b d line e)
-DoesAction b line (action.Push count) d notes d' rest = (l : ℕ) × Notes line kind.Pushed l notes rest × MayPush b d count l × (d' ≡ after_push d count l)
-DoesAction b line (action.Pull count) d notes d' rest = (l : ℕ) × Notes line kind.Taken l notes rest × MayPull b d count l × (d' ≡ after_pull d l)
-DoesAction b line action.Sync d notes d' rest = (l : ℕ) × Notes line kind.Synced l notes rest × MaySync b d l × (d' ≡ after_sync d l)
+DoesAction b line (action.Push count) d notes d' rest = (l : ℕ) × Notes line kind.Pushed l notes rest × MayNotePush b d count l × (d' ≡ after_push d count l)
+DoesAction b line (action.Pull count) d notes d' rest = (l : ℕ) × Notes line kind.Taken l notes rest × MayNotePull b d count l × (d' ≡ after_pull d l)
+DoesAction b line action.Sync d notes d' rest = (l : ℕ) × Notes line kind.Synced l notes rest × MayNoteSync b d l × (d' ≡ after_sync d l)
 DoesAction b line (action.Read range) d notes d' rest =
-    (l : ℕ) × (T : Table) × Notes line kind.Read l notes rest × MayRead b d l T × (d' ≡ after_read b d line range l T)
+    (l : ℕ) × (T : Table) × Notes line kind.Read l notes rest × MayNoteRead b d l T × (d' ≡ after_read b d line range l T)
 
 abbrev pub DoesLine : Beside → SiteLine → Done → List Note → Done → List Note → Type 0
 DoesLine b line d notes d' rest = DoesAction b line.number line.action d notes d' rest

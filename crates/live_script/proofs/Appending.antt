@@ -6,7 +6,7 @@ use Rattle.script_read.specs.declared.command.Command.{Command}
 use Rattle.script_read.specs.declared.command.Command.TheVariants as command
 use Rattle.script_read.specs.Script.{Declared, declared_with}
 use Rattle.live_script.specs.declared.script.Action.{Action}
-use Rattle.live_script.specs.Scripts.{action_of, line_before, lines_of, site_named, name_before, names_in, size_given, size_before, size_in}
+use Rattle.live_script.specs.Scripts.{action_of, line_before, site_lines, site_named, name_before, names_in, size_given, size_before, size_in}
 use Rattle.live_script.specs.SoFar.{declared_from}
 
 abbrev pub Commands : Type 0
@@ -127,11 +127,11 @@ names_in-append (c ∷ cs) ds = ap (name_before (site_named c.1)) (names_in-appe
     before None = refl
     before (Some name) = refl
 
-pub lines_of-append : (site : List ℕ) (cs ds : Commands) → lines_of site (cs ++ ds) ≡ lines_of site cs ++ lines_of site ds
-lines_of-append site [] ds = refl
-lines_of-append site (c ∷ cs) ds = ap (line_before c.0 (action_of site c.1)) (lines_of-append site cs ds) ∙ before (action_of site c.1)
+pub site_lines-append : (site : List ℕ) (cs ds : Commands) → site_lines site (cs ++ ds) ≡ site_lines site cs ++ site_lines site ds
+site_lines-append site [] ds = refl
+site_lines-append site (c ∷ cs) ds = ap (line_before c.0 (action_of site c.1)) (site_lines-append site cs ds) ∙ before (action_of site c.1)
   where
-    before : (o : Option Action) → line_before c.0 o (lines_of site cs ++ lines_of site ds) ≡ line_before c.0 o (lines_of site cs) ++ lines_of site ds
+    before : (o : Option Action) → line_before c.0 o (site_lines site cs ++ site_lines site ds) ≡ line_before c.0 o (site_lines site cs) ++ site_lines site ds
     before None = refl
     before (Some a) = refl
 
@@ -146,11 +146,11 @@ size_in-first d (c ∷ cs) n size e =
     ∙ size_in-first (declared_with d c.1) cs n size e
 
 -- no site has a line as long as sites may be declared
-pub lines_of-open : (site : List ℕ) (d : Declared) (cs : Commands) → (declared_from d cs).closed ≡ false → lines_of site cs ≡ []
-lines_of-open site d [] e = refl
-lines_of-open site d (c ∷ cs) e =
-    ap (λ o. line_before c.0 o (lines_of site cs)) (has_none site d c.1 (not_closed (declared_with d c.1) cs e))
-    ∙ lines_of-open site (declared_with d c.1) cs e
+pub site_lines-open : (site : List ℕ) (d : Declared) (cs : Commands) → (declared_from d cs).closed ≡ false → site_lines site cs ≡ []
+site_lines-open site d [] e = refl
+site_lines-open site d (c ∷ cs) e =
+    ap (λ o. line_before c.0 o (site_lines site cs)) (has_none site d c.1 (not_closed (declared_with d c.1) cs e))
+    ∙ site_lines-open site (declared_with d c.1) cs e
 
 -- the sites that are declared
 sites_with : (d : Declared) (c : Command) → (declared_with d c).sites ≡ d.sites ++ name_before (site_named c) []

@@ -18,9 +18,9 @@ use Rattle.live_script.specs.declared.script.Action.TheVariants as action
 use Rattle.live_script.specs.declared.script.SiteLine.{SiteLine}
 use Rattle.live_script.specs.declared.script.SiteScript.{SiteScript}
 use Rattle.live_script.specs.declared.script.LiveScript.{LiveScript}
-use Rattle.live_script.specs.Scripts.{only_for, action_of, line_before, lines_of, site_named, name_before, names_in, size_given, size_in}
-use Rattle.live_script.specs.SoFar.{SoFar, so_far, nothing_so_far, declared_from, AreApart, Holds, live_fault, with_line, AddsSite, CommandAddressed, ActionWithin, LinesWithin, IsOpened}
-use Rattle.live_script.proofs.Appending.{Commands, declared_from-append, names_in-append, lines_of-append, size_in-kept, size_in-first, lines_of-open, declared_sites}
+use Rattle.live_script.specs.Scripts.{only_for, action_of, line_before, site_lines, site_named, name_before, names_in, size_given, size_in}
+use Rattle.live_script.specs.SoFar.{SoFar, so_far, nothing_so_far, declared_from, NamesDiffer, IsSoFar, live_fault, with_line, AddsSite, CommandAddressed, ActionWithin, LinesWithin, IsOpened}
+use Rattle.live_script.proofs.Appending.{Commands, declared_from-append, names_in-append, site_lines-append, size_in-kept, size_in-first, site_lines-open, declared_sites}
 use Rattle.live_script.proofs.Turns.{free}
 
 abbrev pub name_of : SiteScript → List ℕ
@@ -34,7 +34,7 @@ parts size sites = record { size = size; sites = sites }
 
 -- the site of a name
 abbrev site_in : Commands → List ℕ → SiteScript
-site_in cs name = record { name = name; lines = lines_of name cs }
+site_in cs name = record { name = name; lines = site_lines name cs }
 
 names_of : (cs : Commands) (names : List (List ℕ)) → map name_of (map (site_in cs) names) ≡ names
 names_of cs [] = refl
@@ -55,7 +55,7 @@ idle n c none (s ∷ ss) = λ i. same i ∷ idle n c none ss i
 
 lines_on : (cs : Commands) (n : ℕ) (c : Command) (names : List (List ℕ)) → map (with_line n c) (map (site_in cs) names) ≡ map (site_in (cs ++ (n, c) ∷ [])) names
 lines_on cs n c [] = refl
-lines_on cs n c (name ∷ names) = λ i. site_with name (sym (lines_of-append name cs ((n, c) ∷ [])) i) ∷ lines_on cs n c names i
+lines_on cs n c (name ∷ names) = λ i. site_with name (sym (site_lines-append name cs ((n, c) ∷ [])) i) ∷ lines_on cs n c names i
 
 names_on : (cs : Commands) (n : ℕ) (c : Command) → site_named c ≡ None → names_in (cs ++ (n, c) ∷ []) ≡ names_in cs
 names_on cs n c none = names_in-append cs ((n, c) ∷ []) ∙ (ap (λ (o : Option (List ℕ)). names_in cs ++ name_before o []) none ∙ append-nil (names_in cs))
@@ -65,7 +65,7 @@ sites_on cs n c none = lines_on cs n c (names_in cs) ∙ ap (map (site_in (cs ++
 
 -- ---- names that stand once
 
-apart-push : (names : List (List ℕ)) (name : List ℕ) → AreApart names → list_any (bytes_eq name) names ≡ false → AreApart (names ++ name ∷ [])
+apart-push : (names : List (List ℕ)) (name : List ℕ) → NamesDiffer names → list_any (bytes_eq name) names ≡ false → NamesDiffer (names ++ name ∷ [])
 apart-push [] name h e = (All-nil _, tt)
 apart-push (x ∷ xs) name h e =
     let (first, others) = neither (bytes_eq name x) (list_any (bytes_eq name) xs) e in
@@ -77,10 +77,10 @@ apart-push (x ∷ xs) name h e =
 
 -- ---- the state
 
-pub holds_first : Holds [] nothing_so_far
+pub holds_first : IsSoFar [] nothing_so_far
 holds_first = record { declared = refl; script = refl; apart = tt; few = omega arith; within = All-nil _; addressed = All-nil _ }
 
-module _ (cs : Commands) (old : SoFar) (h : Holds cs old) (n : ℕ) where
+module _ (cs : Commands) (old : SoFar) (h : IsSoFar cs old) (n : ℕ) where
   declared_on : (new : SoFar) (c : Command) → new.declared ≡ declared_with old.declared c → new.declared ≡ declared_from nothing_declared (cs ++ (n, c) ∷ [])
   declared_on new c e = e ∙ (ap (λ d. declared_with d c) h.declared ∙ sym (declared_from-append nothing_declared cs (n, c)))
 
@@ -92,11 +92,11 @@ module _ (cs : Commands) (old : SoFar) (h : Holds cs old) (n : ℕ) where
 
   -- a command that declares no site
   pub holds_on : (new : SoFar) (c : Command) → site_named c ≡ None → CommandWithin 4096 c → CommandAddressed c → new.declared ≡ declared_with old.declared c →
-      new.script.size ≡ size_in (cs ++ (n, c) ∷ []) → new.script.sites ≡ map (with_line n c) old.script.sites → Holds (cs ++ (n, c) ∷ []) new
+      new.script.size ≡ size_in (cs ++ (n, c) ∷ []) → new.script.sites ≡ map (with_line n c) old.script.sites → IsSoFar (cs ++ (n, c) ∷ []) new
   holds_on new c none w a declared size sites = record {
     declared = declared_on new c declared;
     script = λ i. parts (size i) ((sites ∙ (ap (λ (s : LiveScript). map (with_line n c) s.sites) h.script ∙ sites_on cs n c none)) i);
-    apart = subst AreApart (sym (names_on cs n c none)) h.apart;
+    apart = subst NamesDiffer (sym (names_on cs n c none)) h.apart;
     few = let long = ap (λ (ns : List (List ℕ)). length ns) (names_on cs n c none) in omega (arith, long, h.few);
     within = within_on c w;
     addressed = addressed_on c a;
@@ -110,14 +110,14 @@ module _ (cs : Commands) (old : SoFar) (h : Holds cs old) (n : ℕ) where
   size_opened size e = sym (size_in-first nothing_declared cs n size (sym (ap (λ (d : Declared). d.sheet) h.declared) ∙ e))
 
   -- a site that is declared
-  sites_closed : (sites : List (List ℕ)) → old.declared.sites ≡ sites → sites ≡ names_in cs → AreApart sites
-  sites_closed sites e f = subst AreApart (sym f) h.apart
+  sites_closed : (sites : List (List ℕ)) → old.declared.sites ≡ sites → sites ≡ names_in cs → NamesDiffer sites
+  sites_closed sites e f = subst NamesDiffer (sym f) h.apart
 
   pub declared_names : map name_of old.script.sites ≡ names_in cs
   declared_names = ap (λ (s : LiveScript). map name_of s.sites) h.script ∙ names_of cs (names_in cs)
 
   -- a site is added at an open state
-  pub holds_site : (new : SoFar) (name : List ℕ) → old.declared.sites ≡ map name_of old.script.sites → fault_of old.declared (command.Site name) ≡ None → AddsSite old new name → Holds (cs ++ (n, command.Site name) ∷ []) new
+  pub holds_site : (new : SoFar) (name : List ℕ) → old.declared.sites ≡ map name_of old.script.sites → fault_of old.declared (command.Site name) ≡ None → AddsSite old new name → IsSoFar (cs ++ (n, command.Site name) ∷ []) new
   holds_site new name same f adds = by_faults old.declared.sheet old.declared.closed (list_any (bytes_eq name) old.declared.sites) (nat_lt 7 (length old.declared.sites)) refl refl refl refl f
     where
       sites_are : old.declared.sites ≡ names_in cs
@@ -126,11 +126,11 @@ module _ (cs : Commands) (old : SoFar) (h : Holds cs old) (n : ℕ) where
       names : names_in (cs ++ (n, command.Site name) ∷ []) ≡ names_in cs ++ name ∷ []
       names = names_in-append cs ((n, command.Site name) ∷ [])
 
-      made : old.declared.closed ≡ false → list_any (bytes_eq name) old.declared.sites ≡ false → nat_lt 7 (length old.declared.sites) ≡ false → Holds (cs ++ (n, command.Site name) ∷ []) new
+      made : old.declared.closed ≡ false → list_any (bytes_eq name) old.declared.sites ≡ false → nat_lt 7 (length old.declared.sites) ≡ false → IsSoFar (cs ++ (n, command.Site name) ∷ []) new
       made unclosed new_name few = record {
         declared = declared_on new (command.Site name) (ap (λ (t : SoFar). t.declared) adds);
         script = ap (λ (t : SoFar). t.script) adds ∙ (ap (λ (s : LiveScript). record s { sites = s.sites ++ site_with name [] ∷ [] }) h.script ∙ (λ i. parts (sym (size_in-kept cs (n, command.Site name) refl) i) (sites_more i)));
-        apart = subst AreApart (sym names) (apart-push (names_in cs) name h.apart (subst (λ (ns : List (List ℕ)). list_any (bytes_eq name) ns ≡ false) sites_are new_name));
+        apart = subst NamesDiffer (sym names) (apart-push (names_in cs) name h.apart (subst (λ (ns : List (List ℕ)). list_any (bytes_eq name) ns ≡ false) sites_are new_name));
         few = fewer (length (names_in (cs ++ (n, command.Site name) ∷ []))) (length (names_in cs)) (ap (λ (ns : List (List ℕ)). length ns) names ∙ length-append (names_in cs) (name ∷ [])) (subst (λ (ns : List (List ℕ)). nat_lt 7 (length ns) ≡ false) sites_are few);
         within = within_on (command.Site name) tt;
         addressed = addressed_on (command.Site name) tt;
@@ -139,8 +139,8 @@ module _ (cs : Commands) (old : SoFar) (h : Holds cs old) (n : ℕ) where
           fewer : (m k : ℕ) → m ≡ k + 1 → nat_lt 7 k ≡ false → m ≤ 8
           fewer m k e t = grind (arith, nat_tests)
 
-          no_lines : lines_of name (cs ++ (n, command.Site name) ∷ []) ≡ []
-          no_lines = lines_of-append name cs ((n, command.Site name) ∷ []) ∙ (append-nil (lines_of name cs) ∙ lines_of-open name nothing_declared cs (sym (ap (λ (d : Declared). d.closed) h.declared) ∙ unclosed))
+          no_lines : site_lines name (cs ++ (n, command.Site name) ∷ []) ≡ []
+          no_lines = site_lines-append name cs ((n, command.Site name) ∷ []) ∙ (append-nil (site_lines name cs) ∙ site_lines-open name nothing_declared cs (sym (ap (λ (d : Declared). d.closed) h.declared) ∙ unclosed))
 
           after : Commands
           after = cs ++ (n, command.Site name) ∷ []
@@ -152,7 +152,7 @@ module _ (cs : Commands) (old : SoFar) (h : Holds cs old) (n : ℕ) where
               ∙ (sym (map-append (site_in after) (names_in cs) (name ∷ [])) ∙ ap (map (site_in after)) (sym names)))
 
       by_faults : (a b c d : Bool) → old.declared.sheet ≡ a → old.declared.closed ≡ b → list_any (bytes_eq name) old.declared.sites ≡ c → nat_lt 7 (length old.declared.sites) ≡ d →
-          ◌≡◌ {A = Option ScriptKind} (cond (not a) (Some kind.Sheet) (cond (b || (c || d)) (Some kind.Site) None)) None → Holds (cs ++ (n, command.Site name) ∷ []) new
+          ◌≡◌ {A = Option ScriptKind} (cond (not a) (Some kind.Sheet) (cond (b || (c || d)) (Some kind.Site) None)) None → IsSoFar (cs ++ (n, command.Site name) ∷ []) new
       by_faults false b c d e1 e2 e3 e4 f = absurd (cc)
       by_faults true true c d e1 e2 e3 e4 f = absurd (cc)
       by_faults true false true d e1 e2 e3 e4 f = absurd (cc)
@@ -160,15 +160,15 @@ module _ (cs : Commands) (old : SoFar) (h : Holds cs old) (n : ℕ) where
       by_faults true false false false e1 e2 e3 e4 f = made e2 e3 e4
 
 -- what is declared goes on with the command
-pub declared_next : (cs : Commands) (old new : SoFar) (n : ℕ) (c : Command) → Holds cs old → Holds (cs ++ (n, c) ∷ []) new → new.declared ≡ declared_with old.declared c
+pub declared_next : (cs : Commands) (old new : SoFar) (n : ℕ) (c : Command) → IsSoFar cs old → IsSoFar (cs ++ (n, c) ∷ []) new → new.declared ≡ declared_with old.declared c
 declared_next cs old new n c h k = k.declared ∙ (declared_from-append nothing_declared cs (n, c) ∙ ap (λ d. declared_with d c) (sym h.declared))
 
 -- the names are apart
-pub apart_here : (cs : Commands) (size : Option Size) (sites : List SiteScript) (closed : Bool) (old : SoFar) → so_far size sites closed ≡ old → Holds cs old → AreApart (map name_of sites)
-apart_here cs size sites closed old is h = subst AreApart (sym (ap (λ (t : SoFar). map name_of t.script.sites) is ∙ declared_names cs old h 0)) h.apart
+pub apart_here : (cs : Commands) (size : Option Size) (sites : List SiteScript) (closed : Bool) (old : SoFar) → so_far size sites closed ≡ old → IsSoFar cs old → NamesDiffer (map name_of sites)
+apart_here cs size sites closed old is h = subst NamesDiffer (sym (ap (λ (t : SoFar). map name_of t.script.sites) is ∙ declared_names cs old h 0)) h.apart
 
-pub held_note : (cs : Commands) (old : SoFar) (n : ℕ) (c : Command) → c ≡ command.Note → Holds cs old → Holds (cs ++ (n, c) ∷ []) old
-held_note cs old n c is h = subst (λ (x : Command). Holds (cs ++ (n, x) ∷ []) old) (sym is)
+pub held_note : (cs : Commands) (old : SoFar) (n : ℕ) (c : Command) → c ≡ command.Note → IsSoFar cs old → IsSoFar (cs ++ (n, c) ∷ []) old
+held_note cs old n c is h = subst (λ (x : Command). IsSoFar (cs ++ (n, x) ∷ []) old) (sym is)
     (holds_on cs old h n old command.Note refl tt tt refl (size_on cs old h n command.Note refl) (sym (idle n command.Note (λ site. refl) old.script.sites)))
 
 unopened : (d : Declared) (s : Size) → live_fault d (command.Sheet s) ≡ None → d.sheet ≡ false
@@ -179,19 +179,19 @@ unopened d s f = by_test d.sheet ((free d 0 (command.Sheet s) f).0)
     by_test false e = refl
 
 pub held_sheet : (cs : Commands) (size : Option Size) (sites : List SiteScript) (closed : Bool) (old : SoFar) → so_far size sites closed ≡ old → (n : ℕ) (c : Command) (s : Size) → c ≡ command.Sheet s → live_fault old.declared c ≡ None → CommandWithin 4096 c →
-    Holds cs old → Holds (cs ++ (n, c) ∷ []) (so_far (Some s) sites closed)
+    IsSoFar cs old → IsSoFar (cs ++ (n, c) ∷ []) (so_far (Some s) sites closed)
 held_sheet cs size sites closed old view n c s is f w h =
     let free_here = subst (λ (x : Command). live_fault old.declared x ≡ None) is f in
     let within_here = subst (CommandWithin 4096) is w in
     let same = ap (λ (t : SoFar). t.script.sites) view in
-    subst (λ (x : Command). Holds (cs ++ (n, x) ∷ []) (so_far (Some s) sites closed)) (sym is)
+    subst (λ (x : Command). IsSoFar (cs ++ (n, x) ∷ []) (so_far (Some s) sites closed)) (sym is)
     (holds_on cs old h n (so_far (Some s) sites closed) (command.Sheet s) refl within_here tt (ap (λ (t : SoFar). declared_with t.declared (command.Sheet s)) view)
     (size_opened cs old h n s (unopened old.declared s free_here)) (same ∙ sym (idle n (command.Sheet s) (λ site. refl) old.script.sites)))
 
-pub held_site : (cs : Commands) (old : SoFar) (n : ℕ) (c : Command) (name : List ℕ) (new : SoFar) → c ≡ command.Site name → live_fault old.declared c ≡ None → Holds cs old → AddsSite old new name → Holds (cs ++ (n, c) ∷ []) new
+pub held_site : (cs : Commands) (old : SoFar) (n : ℕ) (c : Command) (name : List ℕ) (new : SoFar) → c ≡ command.Site name → live_fault old.declared c ≡ None → IsSoFar cs old → AddsSite old new name → IsSoFar (cs ++ (n, c) ∷ []) new
 held_site cs old n c name new is f h adds =
     let free_here = subst (λ (x : Command). live_fault old.declared x ≡ None) is f in
-    subst (λ (x : Command). Holds (cs ++ (n, x) ∷ []) new) (sym is)
+    subst (λ (x : Command). IsSoFar (cs ++ (n, x) ∷ []) new) (sym is)
     (holds_site cs old h n new name (ap (λ (d : Declared). d.sites) h.declared ∙ (declared_sites nothing_declared cs ∙ sym (declared_names cs old h n))) ((free old.declared 0 (command.Site name) free_here).0) adds)
 
 -- a command behind which no site may be declared
@@ -221,7 +221,7 @@ closes command.ShowServer e = (refl, refl, λ d. refl)
 closes command.End e = (refl, refl, λ d. refl)
 
 pub held_closing : (cs : Commands) (size : Option Size) (sites : List SiteScript) (closed : Bool) (old : SoFar) → so_far size sites closed ≡ old → (n : ℕ) (c : Command) (added : List SiteScript) → closing c ≡ true → CommandWithin 4096 c → CommandAddressed c →
-    Holds cs old → added ≡ map (with_line n c) sites → Holds (cs ++ (n, c) ∷ []) (so_far size added true)
+    IsSoFar cs old → added ≡ map (with_line n c) sites → IsSoFar (cs ++ (n, c) ∷ []) (so_far size added true)
 held_closing cs size sites closed old view n c added e w a h is =
     let (none, unsized, shuts) = closes c e in
     holds_on cs old h n (so_far size added true) c none w a
@@ -306,24 +306,24 @@ action_within site (command.Show name) w a = tt
 action_within site command.ShowServer w a = tt
 action_within site command.End w a = tt
 
-lines_within : (site : List ℕ) (cs : Commands) → All (λ (c : ℕ × Command). CommandWithin 4096 c.1) cs → All (λ (c : ℕ × Command). CommandAddressed c.1) cs → LinesWithin (lines_of site cs)
+lines_within : (site : List ℕ) (cs : Commands) → All (λ (c : ℕ × Command). CommandWithin 4096 c.1) cs → All (λ (c : ℕ × Command). CommandAddressed c.1) cs → LinesWithin (site_lines site cs)
 lines_within site [] w a = All-nil _
 lines_within site (c ∷ cs) w a = before (action_of site c.1) (action_within site c.1 (All-head IsWithin c cs w) (All-head IsAddressed c cs a)) (lines_within site cs (All-tail IsWithin c cs w) (All-tail IsAddressed c cs a))
   where
-    before : (o : Option Action) → OnAction o → LinesWithin (lines_of site cs) → LinesWithin (line_before c.0 o (lines_of site cs))
+    before : (o : Option Action) → OnAction o → LinesWithin (site_lines site cs) → LinesWithin (line_before c.0 o (site_lines site cs))
     before None y rest = rest
-    before (Some x) y rest = All-cons (λ (l : SiteLine). ActionWithin l.action) (record { number = c.0; action = x }) (lines_of site cs) y rest
+    before (Some x) y rest = All-cons (λ (l : SiteLine). ActionWithin l.action) (record { number = c.0; action = x }) (site_lines site cs) y rest
 
 sites_within : (cs : Commands) → All (λ (c : ℕ × Command). CommandWithin 4096 c.1) cs → All (λ (c : ℕ × Command). CommandAddressed c.1) cs → (names : List (List ℕ)) → All (λ (site : SiteScript). LinesWithin site.lines) (map (site_in cs) names)
 sites_within cs w a [] = All-nil _
 sites_within cs w a (name ∷ names) = All-cons (λ (site : SiteScript). LinesWithin site.lines) (site_in cs name) (map (site_in cs) names) (lines_within name cs w a) (sites_within cs w a names)
 
-pub opened : (cs : Commands) (s : SoFar) → Holds cs s → s.declared.sheet ≡ true → IsOpened s.script
+pub opened : (cs : Commands) (s : SoFar) → IsSoFar cs s → s.declared.sheet ≡ true → IsOpened s.script
 opened cs s h sheet = subst IsOpened (sym h.script) (
     let size = sized nothing_declared cs refl (sym (ap (λ (d : Declared). d.sheet) h.declared) ∙ sheet) h.within in record {
       rows = (size.0, size.1);
       cols = (size.2, size.3);
       few = let long = length-map (names_in cs) (site_in cs) in omega (arith, long, h.few);
-      apart = subst AreApart (sym (names_of cs (names_in cs))) h.apart;
+      apart = subst NamesDiffer (sym (names_of cs (names_in cs))) h.apart;
       within = sites_within cs h.within h.addressed (names_in cs);
     })

@@ -13,14 +13,14 @@ use Rattle.live_script.specs.declared.script.LiveStop.TheVariants as stop
 use Rattle.live_script.specs.declared.flow.Flow.{Flow}
 use Rattle.live_script.specs.declared.flow.Flow.TheVariants as flow
 use Rattle.live_script.specs.Scripts.{live_script, by_sites}
-use Rattle.live_script.specs.SoFar.{SoFar, nothing_so_far, live_turn, Holds, LineGives, StopsAs}
+use Rattle.live_script.specs.SoFar.{SoFar, nothing_so_far, live_turn, IsSoFar, LineAdds, TellsStop}
 use Rattle.live_script.proofs.Appending.{Commands}
 use Rattle.live_script.proofs.Turns.{cut, cut_turn}
 use Rattle.live_script.proofs.Holding.{holds_first, declared_next}
 
 -- what an equal line comes to, and an equal answer to it
-pub of_line : (t t' : SoFar) (n : ℕ) (line held : List ℕ) (x y : Result Flow LiveStop) → line ≡ held → x ≡ y → LineGives t t' n line x → LineGives t t' n held y
-of_line t t' n line held x y e f k = subst (λ (z : Result Flow LiveStop). LineGives t t' n held z) f (subst (λ (l : List ℕ). LineGives t t' n l x) e k)
+pub of_line : (t t' : SoFar) (n : ℕ) (line held : List ℕ) (x y : Result Flow LiveStop) → line ≡ held → x ≡ y → LineAdds t t' n line x → LineAdds t t' n held y
+of_line t t' n line held x y e f k = subst (λ (z : Result Flow LiveStop). LineAdds t t' n held z) f (subst (λ (l : List ℕ). LineAdds t t' n l x) e k)
 
 -- the script of the lines from number n on
 abbrev live_from : Declared → ℕ → List Line → Script
@@ -53,7 +53,7 @@ pub record Reads (s : Script) (left : Option (List Line)) (t : SoFar) (n : ℕ) 
   pub rest : List Line
   pub commands : Commands
   pub left_is : left ≡ Some rest
-  pub holds : Holds commands t
+  pub holds : IsSoFar commands t
   pub through : s ≡ continued commands (live_from t.declared n rest)
 
 pub reads_first : (bytes : List ℕ) (f : FeedState) → f ≡ record { line = []; ahead = []; used = 0 } → (left : Option (List ℕ)) → left ≡ Some bytes → (t : SoFar) → t ≡ nothing_so_far → Reads (live_script bytes) (lines_left f left) t 1
@@ -108,7 +108,7 @@ module _ (s : Script) (left : Option (List Line)) (t : SoFar) (n : ℕ) (r : Rea
     stop_here why k = stop_is (first.line ∷ first.others) first.rest_is why (from_here (stops why) k)
 
     module _ (t' : SoFar) where
-      pub reads_on : LineGives t t' n held (Ok flow.GoesOn) → Reads s new t' (n + 1)
+      pub reads_on : LineAdds t t' n held (Ok flow.GoesOn) → Reads s new t' (n + 1)
       reads_on (c, turn, adds) = record {
         rest = first.others;
         commands = r.commands ++ (n, c) ∷ [];
@@ -122,14 +122,14 @@ module _ (s : Script) (left : Option (List Line)) (t : SoFar) (n : ℕ) (r : Rea
             ∙ ap (λ d. continued (r.commands ++ (n, c) ∷ []) (live_from d (n + 1) first.others)) (sym (declared_next r.commands t t' n c r.holds (adds r.commands r.holds))))));
       }
 
-      pub stop_at_error : (e : LiveStop) → LineGives t t' n held (Err e) → StopsAs s.stop e
+      pub stop_at_error : (e : LiveStop) → LineAdds t t' n held (Err e) → TellsStop s.stop e
       stop_at_error (stop.Script err) k = (stop_here (refused err) k).0
       stop_at_error stop.Memory k = tt
       stop_at_error stop.ReadFault k = absurd k
       stop_at_error (stop.TooLong line) k = absurd k
 
       -- where the script ends it is the one of its commands
-      pub script_here : LineGives t t' n held (Ok flow.Ended) → (s.stop ≡ ended) × (t'.script ≡ by_sites s.commands)
+      pub script_here : LineAdds t t' n held (Ok flow.Ended) → (s.stop ≡ ended) × (t'.script ≡ by_sites s.commands)
       script_here (turn, same, sheet) =
           let (at, all) = stop_here ended turn in
           (at, ap (λ (u : SoFar). u.script) same ∙ (r.holds.script ∙ ap by_sites (sym all)))

@@ -11,7 +11,7 @@ use Rattle.live_script.specs.declared.script.Action.{Action}
 use Rattle.live_script.specs.declared.script.SiteLine.{SiteLine}
 use Rattle.live_script.specs.declared.script.SiteScript.{SiteScript}
 use Rattle.live_script.specs.Scripts.{only_for, line_before}
-use Rattle.live_script.specs.SoFar.{AreApart, with_action}
+use Rattle.live_script.specs.SoFar.{NamesDiffer, with_action}
 use Rattle.live_script.proofs.Holding.{name_of, site_with}
 
 module _ (n : ℕ) (name : List ℕ) (a : Action) where
@@ -38,7 +38,7 @@ module _ (n : ℕ) (name : List ℕ) (a : Action) where
   spread x [] h = All-nil _
   spread x (s ∷ ss) h = All-cons (λ (t : SiteScript). bytes_eq t.name x ≡ false) s ss (All-head (λ (later : List ℕ). bytes_eq later x ≡ false) s.name (map name_of ss) h) (spread x ss (All-tail (λ (later : List ℕ). bytes_eq later x ≡ false) s.name (map name_of ss) h))
 
-  pub put_line : (sites : List SiteScript) (p : ℕ) (d : SiteScript) → AreApart (map name_of sites) → p < length sites → bytes_eq (get_or sites p d).name name ≡ true → slice_set sites p (added (get_or sites p d)) ≡ map for_name sites
+  pub put_line : (sites : List SiteScript) (p : ℕ) (d : SiteScript) → NamesDiffer (map name_of sites) → p < length sites → bytes_eq (get_or sites p d).name name ≡ true → slice_set sites p (added (get_or sites p d)) ≡ map for_name sites
   put_line [] p d h lt e = absurd (omega arith)
   put_line (s ∷ ss) zero d h lt e = λ i. hit s e i ∷ sym (no_line ss (subst (λ (x : List ℕ). All (λ (t : SiteScript). bytes_eq t.name x ≡ false) ss) ((bytes_decides s.name name).0 e) (spread s.name ss h.0))) i
   put_line (s ∷ ss) (suc p) d h lt e = λ i. sym (miss s (other (bytes_eq s.name name) refl)) i ∷ put_line ss p d h.1 within e i
@@ -54,7 +54,7 @@ module _ (n : ℕ) (name : List ℕ) (a : Action) where
           absurd (cc)
 
   -- at a place that was found among equal sites
-  pub put_at : (sites seen : List SiteScript) → seen ≡ sites → (p : ℕ) (x : SiteScript) (lines : List SiteLine) → AreApart (map name_of sites) → (p < length seen) × ((d : SiteScript) → bytes_eq (get_or seen p d).name name ≡ true) →
+  pub put_at : (sites seen : List SiteScript) → seen ≡ sites → (p : ℕ) (x : SiteScript) (lines : List SiteLine) → NamesDiffer (map name_of sites) → (p < length seen) × ((d : SiteScript) → bytes_eq (get_or seen p d).name name ≡ true) →
       x ≡ get_or sites p x → lines ≡ x.lines ++ record { number = n; action = a } ∷ [] → slice_set sites p (site_with x.name lines) ≡ map for_name sites
   put_at sites seen same p x lines apart found at e =
       let here = subst (λ (ss : List SiteScript). (p < length ss) × ((d : SiteScript) → bytes_eq (get_or ss p d).name name ≡ true)) same found in

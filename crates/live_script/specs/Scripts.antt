@@ -12,20 +12,20 @@ use Rattle.live_script.specs.declared.script.SiteLine.{SiteLine}
 use Rattle.live_script.specs.declared.script.LiveScript.{LiveScript}
 
 -- what prints or publishes for all sites at one moment isn't for running threads
-abbrev pub is_live : Command → Bool
-is_live (command.Recalc count) = false
-is_live command.Values = false
-is_live command.History = false
-is_live command.Wire = false
-is_live (command.Show name) = false
-is_live command.ShowServer = false
-is_live _ = true
+abbrev pub is_for_threads : Command → Bool
+is_for_threads (command.Recalc count) = false
+is_for_threads command.Values = false
+is_for_threads command.History = false
+is_for_threads command.Wire = false
+is_for_threads (command.Show name) = false
+is_for_threads command.ShowServer = false
+is_for_threads _ = true
 
 -- the commands before the first one that isn't for running threads, at which the script stops
 abbrev pub cut_live : List (ℕ × Command) → Stop → Script
 cut_live [] stop = record { commands = []; stop = stop }
 cut_live (c ∷ cs) stop =
-    if is_live c.1 then record { commands = c ∷ (cut_live cs stop).commands; stop = (cut_live cs stop).stop }
+    if is_for_threads c.1 then record { commands = c ∷ (cut_live cs stop).commands; stop = (cut_live cs stop).stop }
     else record { commands = []; stop = refused_at c.0 kind.NotLive }
 
 abbrev pub live_script : List ℕ → Script
@@ -50,9 +50,9 @@ line_before n None ls = ls
 line_before n (Some a) ls = record { number = n; action = a } ∷ ls
 
 -- the lines of the site of a name
-abbrev pub lines_of : List ℕ → List (ℕ × Command) → List SiteLine
-lines_of site [] = []
-lines_of site (c ∷ cs) = line_before c.0 (action_of site c.1) (lines_of site cs)
+abbrev pub site_lines : List ℕ → List (ℕ × Command) → List SiteLine
+site_lines site [] = []
+site_lines site (c ∷ cs) = line_before c.0 (action_of site c.1) (site_lines site cs)
 
 -- the name that a command declares, and the names that are declared, in order
 abbrev pub site_named : Command → Option (List ℕ)
@@ -82,4 +82,4 @@ size_in (c ∷ cs) = size_before (size_given c.1) (size_in cs)
 
 -- commands by sites
 abbrev pub by_sites : List (ℕ × Command) → LiveScript
-by_sites cs = record { size = size_in cs; sites = map (λ (name : List ℕ). record { name = name; lines = lines_of name cs }) (names_in cs) }
+by_sites cs = record { size = size_in cs; sites = map (λ (name : List ℕ). record { name = name; lines = site_lines name cs }) (names_in cs) }

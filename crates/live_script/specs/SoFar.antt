@@ -20,7 +20,7 @@ use Rattle.live_script.specs.declared.lines.ForAll.{ForAll}
 use Rattle.live_script.specs.declared.lines.ForAll.TheVariants as for_all
 use Rattle.live_script.specs.declared.flow.Flow.{Flow}
 use Rattle.live_script.specs.declared.flow.Flow.TheVariants as flow
-use Rattle.live_script.specs.Scripts.{is_live, line_before, action_of, names_in, by_sites}
+use Rattle.live_script.specs.Scripts.{is_for_threads, line_before, action_of, names_in, by_sites}
 
 -- what is declared, and the script of the sites that are
 pub record SoFar : Type 0 where
@@ -42,7 +42,7 @@ nothing_so_far = so_far None [] false
 
 -- the first kind of fault that fits a command here, where what isn't for running threads is refused
 abbrev pub only_live : Command → Option ScriptKind → Option ScriptKind
-only_live c None = if is_live c then None else Some kind.NotLive
+only_live c None = if is_for_threads c then None else Some kind.NotLive
 only_live c (Some k) = Some k
 
 abbrev pub live_fault : Declared → Command → Option ScriptKind
@@ -51,11 +51,11 @@ live_fault d c = only_live c (fault_of d c)
 -- the turn of a line here
 abbrev pub live_turn : ℕ → LineTurn → LineTurn
 live_turn n (stops s) = stops s
-live_turn n (goes d c) = if is_live c then goes d c else stops (refused_at n kind.NotLive)
+live_turn n (goes d c) = if is_for_threads c then goes d c else stops (refused_at n kind.NotLive)
 
-abbrev pub is_end : Command → Bool
-is_end command.End = true
-is_end _ = false
+abbrev pub ends_script : Command → Bool
+ends_script command.End = true
+ends_script _ = false
 
 -- what is declared after commands
 abbrev pub declared_from : Declared → List (ℕ × Command) → Declared
@@ -63,9 +63,9 @@ declared_from d [] = d
 declared_from d (c ∷ cs) = declared_from (declared_with d c.1) cs
 
 -- no name stands twice
-abbrev pub AreApart : List (List ℕ) → Type 0
-AreApart [] = Unit {0}
-AreApart (name ∷ names) = All (λ (later : List ℕ). bytes_eq later name ≡ false) names × AreApart names
+abbrev pub NamesDiffer : List (List ℕ) → Type 0
+NamesDiffer [] = Unit {0}
+NamesDiffer (name ∷ names) = All (λ (later : List ℕ). bytes_eq later name ≡ false) names × NamesDiffer names
 
 -- the cells of a range that is read have addresses: row numbers have at most 7 digits, and columns at most 3 letters
 abbrev pub CommandAddressed : Command → Type 0
@@ -73,10 +73,10 @@ CommandAddressed (command.Read name range) = (range.bottom < 9999999) × (range.
 CommandAddressed _ = Unit {0}
 
 -- these are the commands so far
-pub record Holds (cs : List (ℕ × Command)) (s : SoFar) : Type 0 where
+pub record IsSoFar (cs : List (ℕ × Command)) (s : SoFar) : Type 0 where
   pub declared : s.declared ≡ declared_from nothing_declared cs
   pub script : s.script ≡ by_sites cs
-  pub apart : AreApart (names_in cs)
+  pub apart : NamesDiffer (names_in cs)
   pub few : length (names_in cs) ≤ 8
   pub within : All (λ (c : ℕ × Command). CommandWithin 4096 c.1) cs
   pub addressed : All (λ (c : ℕ × Command). CommandAddressed c.1) cs
@@ -99,25 +99,25 @@ abbrev pub AddsSite : SoFar → SoFar → List ℕ → Type 0
 AddsSite old new name = new ≡ record old { declared = record old.declared { sites = old.declared.sites ++ name ∷ [] }; script = record old.script { sites = old.script.sites ++ record { name = name; lines = [] } ∷ [] } }
 
 -- What a line gives, by its turn. One that goes on adds its command.
-abbrev pub Gives : SoFar → SoFar → ℕ → LineTurn → Result Flow LiveStop → Type 0
-Gives old new n turn (Ok flow.GoesOn) = (c : Command) × (turn ≡ goes (declared_with old.declared c) c) × ((cs : List (ℕ × Command)) → Holds cs old → Holds (cs ++ (n, c) ∷ []) new)
-Gives old new n turn (Ok flow.Ended) = (turn ≡ stops ended) × (new ≡ old) × (old.declared.sheet ≡ true)
-Gives old new n turn (Err (stop.Script err)) = turn ≡ stops (refused err)
-Gives old new n turn (Err stop.Memory) = Unit {0}
-Gives old new n turn (Err _) = ⊥
+abbrev pub TurnAdds : SoFar → SoFar → ℕ → LineTurn → Result Flow LiveStop → Type 0
+TurnAdds old new n turn (Ok flow.GoesOn) = (c : Command) × (turn ≡ goes (declared_with old.declared c) c) × ((cs : List (ℕ × Command)) → IsSoFar cs old → IsSoFar (cs ++ (n, c) ∷ []) new)
+TurnAdds old new n turn (Ok flow.Ended) = (turn ≡ stops ended) × (new ≡ old) × (old.declared.sheet ≡ true)
+TurnAdds old new n turn (Err (stop.Script err)) = turn ≡ stops (refused err)
+TurnAdds old new n turn (Err stop.Memory) = Unit {0}
+TurnAdds old new n turn (Err _) = ⊥
 
-abbrev pub CommandGives : SoFar → SoFar → ℕ → Command → Result Flow LiveStop → Type 0
-CommandGives old new n c r = Gives old new n (live_turn n (turn_of old.declared n c)) r
+abbrev pub CommandAdds : SoFar → SoFar → ℕ → Command → Result Flow LiveStop → Type 0
+CommandAdds old new n c r = TurnAdds old new n (live_turn n (turn_of old.declared n c)) r
 
-abbrev pub LineGives : SoFar → SoFar → ℕ → List ℕ → Result Flow LiveStop → Type 0
-LineGives old new n line r = Gives old new n (live_turn n (turn_of_line old.declared n (command_of line))) r
+abbrev pub LineAdds : SoFar → SoFar → ℕ → List ℕ → Result Flow LiveStop → Type 0
+LineAdds old new n line r = TurnAdds old new n (live_turn n (turn_of_line old.declared n (command_of line))) r
 
 -- an answer that tells where a script stops tells the stop of this one
-abbrev pub StopsAs : Stop → LiveStop → Type 0
-StopsAs s (stop.Script err) = s ≡ refused err
-StopsAs s (stop.TooLong line) = s ≡ too_long line
-StopsAs s stop.ReadFault = Unit {0}
-StopsAs s stop.Memory = Unit {0}
+abbrev pub TellsStop : Stop → LiveStop → Type 0
+TellsStop s (stop.Script err) = s ≡ refused err
+TellsStop s (stop.TooLong line) = s ≡ too_long line
+TellsStop s stop.ReadFault = Unit {0}
+TellsStop s stop.Memory = Unit {0}
 
 -- an entry has at most 4,096 bytes, ranges and rows are in order, and the cells of a range that is read have addresses
 abbrev pub ActionWithin : Action → Type 0
@@ -134,5 +134,5 @@ pub record IsOpened (s : LiveScript) : Type 0 where
   pub rows : (1 ≤ s.size.rows) × (s.size.rows ≤ 1000)
   pub cols : (1 ≤ s.size.cols) × (s.size.cols ≤ 64)
   pub few : length s.sites ≤ 8
-  pub apart : AreApart (map (λ (site : SiteScript). site.name) s.sites)
+  pub apart : NamesDiffer (map (λ (site : SiteScript). site.name) s.sites)
   pub within : All (λ (site : SiteScript). LinesWithin site.lines) s.sites

@@ -1,7 +1,7 @@
 ghost use Rattle.std.specs.Prelude.{◌≡◌, ◌∷◌, [], ◌++◌, ℕ, List, None, OnOk};
 ghost use Rattle.script_read.specs.declared.command.Command.{Command};
 ghost use Rattle.script_read.specs.Commands.{CommandWithin};
-ghost use Rattle.live_script.specs.SoFar.{nothing_so_far, live_fault, CommandAddressed, Holds, AddsSite};
+ghost use Rattle.live_script.specs.SoFar.{nothing_so_far, live_fault, CommandAddressed, IsSoFar, AddsSite};
 
 use crate::fault::fault_of;
 use crate::lines::add_lines;
@@ -61,7 +61,7 @@ impl Collected {
         requires accepted { live_fault self.old.declared command ≡ None }
         requires within { CommandWithin 4096 command }
         requires addressed { CommandAddressed command }
-        ensures { (cs : List (ℕ × Command)) → Holds cs self.old → OnOk result (Holds (cs ++ (number, command) ∷ []) self.new) }
+        ensures { (cs : List (ℕ × Command)) → IsSoFar cs self.old → OnOk result (IsSoFar (cs ++ (number, command) ∷ []) self.new) }
     {
         match command {
             Command::Note => Ok(()),

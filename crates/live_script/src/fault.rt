@@ -4,7 +4,7 @@ ghost use Rattle.std.specs.Str.{bytes_eq};
 ghost use Rattle.script_read.specs.declared.command.Command.TheVariants as command;
 ghost use Rattle.script_read.specs.Script.{fault_of, is_declared, without_site};
 ghost use Rattle.live_script.specs.declared.script.SiteScript.{SiteScript};
-ghost use Rattle.live_script.specs.Scripts.{is_live};
+ghost use Rattle.live_script.specs.Scripts.{is_for_threads};
 ghost use Rattle.live_script.specs.SoFar.{declared_by, live_fault, only_live};
 
 use crate::script::SiteScript;

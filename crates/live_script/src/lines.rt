@@ -6,7 +6,7 @@ ghost use Rattle.live_script.specs.declared.script.Action.{Action};
 ghost use Rattle.live_script.specs.declared.script.Action.TheVariants as action;
 ghost use Rattle.live_script.specs.declared.lines.ForAll.TheVariants as for_all;
 ghost use Rattle.live_script.specs.Scripts.{only_for};
-ghost use Rattle.live_script.specs.SoFar.{AreApart, with_action, with_line};
+ghost use Rattle.live_script.specs.SoFar.{NamesDiffer, with_action, with_line};
 ghost use Rattle.live_script.specs.SoFar.{action_for_all};
 
 use crate::script::{Action, SiteLine, SiteScript};
@@ -23,7 +23,7 @@ enum ForAll {
 /// Adds the line of a command to the sites that it is for: to the one that it names, or to all. After a
 /// refused call some may have it.
 pub fn add_lines(sites: &mut Vec<SiteScript>, number: u32, command: Command) -> Result<(), Memory>
-    ensures { AreApart (map (λ (s : SiteScript). s.name) sites.old.items) → OnOk result (sites.new.items ≡ map (with_line number command) sites.old.items) }
+    ensures { NamesDiffer (map (λ (s : SiteScript). s.name) sites.old.items) → OnOk result (sites.new.items ≡ map (with_line number command) sites.old.items) }
 {
     match command {
         Command::Edit(name, edit) => add_line(sites, number, name.bytes(), Action::Edit(edit)),
@@ -53,7 +53,7 @@ fn add_line(
     name: &[u8],
     action: Action,
 ) -> Result<(), Memory>
-    ensures { AreApart (map (λ (s : SiteScript). s.name) sites.old.items) → OnOk result (sites.new.items ≡ map (with_action number (λ site. only_for site name.now action)) sites.old.items) }
+    ensures { NamesDiffer (map (λ (s : SiteScript). s.name) sites.old.items) → OnOk result (sites.new.items ≡ map (with_action number (λ site. only_for site name.now action)) sites.old.items) }
 {
     match place_of(sites.as_slice(), name) {
         Some(place) => sites[place].lines.push(SiteLine { number, action }),

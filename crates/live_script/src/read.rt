@@ -3,7 +3,7 @@ ghost use Rattle.ss_base.specs.Streams.{Rose};
 ghost use Rattle.script_read.specs.Commands.{CommandWithin};
 ghost use Rattle.script_read.specs.Script.{ended};
 ghost use Rattle.live_script.specs.Scripts.{live_script, by_sites};
-ghost use Rattle.live_script.specs.SoFar.{nothing_so_far, CommandAddressed, CommandGives, LineGives, is_end, StopsAs, IsOpened};
+ghost use Rattle.live_script.specs.SoFar.{nothing_so_far, CommandAddressed, CommandAdds, LineAdds, ends_script, TellsStop, IsOpened};
 
 use crate::collect::Collected;
 use crate::flow::Flow;
@@ -24,7 +24,7 @@ use std::alloc::Global;
 pub fn read_live<S: Source>(alloc: Global, source: &mut S) -> Result<LiveScript, LiveStop>
     ensures script { (bytes : List ℕ) → S.left source.old ≡ Some bytes →
         IfOk result (λ s. ((live_script bytes).stop ≡ ended) × (s ≡ by_sites (live_script bytes).commands)) }
-    ensures stops { (bytes : List ℕ) → S.left source.old ≡ Some bytes → IfErr result (λ e. StopsAs (live_script bytes).stop e) }
+    ensures stops { (bytes : List ℕ) → S.left source.old ≡ Some bytes → IfErr result (λ e. TellsStop (live_script bytes).stop e) }
     ensures opened { IfOk result IsOpened }
     ensures read { IsErrOf result LiveStop.ReadFault → Rose (S.faults source.old) (S.faults source.new) }
 {
@@ -44,7 +44,7 @@ fn read_each<S: Source>(
     requires { collected.old ≡ nothing_so_far }
     ensures script { (bytes : List ℕ) → S.left source.old ≡ Some bytes →
         OnOk result (((live_script bytes).stop ≡ ended) × (collected.new.script ≡ by_sites (live_script bytes).commands)) }
-    ensures stops { (bytes : List ℕ) → S.left source.old ≡ Some bytes → IfErr result (λ e. StopsAs (live_script bytes).stop e) }
+    ensures stops { (bytes : List ℕ) → S.left source.old ≡ Some bytes → IfErr result (λ e. TellsStop (live_script bytes).stop e) }
     ensures opened { OnOk result (IsOpened collected.new.script) }
     ensures read { IsErrOf result LiveStop.ReadFault → Rose (S.faults source.old) (S.faults source.new) }
 {
@@ -82,7 +82,7 @@ fn take_line(
     line: &[u8],
 ) -> Result<Flow, LiveStop>
     requires { length line.now ≤ 4096 }
-    ensures { LineGives collected.old collected.new number line.now result }
+    ensures { LineAdds collected.old collected.new number line.now result }
 {
     match read_command(alloc, line) {
         Ok(command) => take_command(alloc, collected, number, command),
@@ -103,12 +103,12 @@ fn take_command(
 ) -> Result<Flow, LiveStop>
     requires within { CommandWithin 4096 command }
     requires addressed { CommandAddressed command }
-    ensures { CommandGives collected.old collected.new number command result }
+    ensures { CommandAdds collected.old collected.new number command result }
 {
     if let Some(kind) = collected.fault_of(&command) {
         return Err(LiveStop::Script(ScriptErr { line: number, kind }));
     }
-    if is_end(&command) {
+    if ends_script(&command) {
         return Ok(Flow::Ended);
     }
     match collected.add(alloc, number, command) {
@@ -117,8 +117,8 @@ fn take_command(
     }
 }
 
-fn is_end(command: &Command) -> bool
-    ensures { result ≡ is_end command.now }
+fn ends_script(command: &Command) -> bool
+    ensures { result ≡ ends_script command.now }
 {
     matches!(command, Command::End)
 }

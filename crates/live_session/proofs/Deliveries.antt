@@ -12,13 +12,13 @@ use Rattle.jup_client.specs.declared.Down.{Down}
 use Rattle.jup_client.specs.declared.Down.TheVariants as message
 use Rattle.jup_client.specs.Clients.{IsTaken, down_at}
 use Rattle.hub.specs.Messages.{messages_of}
-use Rattle.live_session.specs.Pulling.{AreNext, Took}
+use Rattle.live_session.specs.Pulling.{AreNextMessages, HasTakenMore}
 
-pub took_none : (c : ClientState) → Took 0 c c
+pub took_none : (c : ClientState) → HasTakenMore 0 c c
 took_none c = record { site = refl; size = refl; issued = refl; taken = omega arith }
 
 -- one message more
-pub took_more : (old c new : ClientState) (i : ℕ) (d : Down) → Took i old c → IsTaken c d new → old.taken + i < 8000 → Took (i + 1) old new
+pub took_more : (old c new : ClientState) (i : ℕ) (d : Down) → HasTakenMore i old c → IsTaken c d new → old.taken + i < 8000 → HasTakenMore (i + 1) old new
 took_more old c new i message.Own t (op, first, is) small = record {
   site = ap (λ (x : ClientState). x.site) is ∙ t.site;
   size = ap (λ (x : ClientState). x.size) is ∙ t.size;
@@ -32,7 +32,7 @@ took_more old c new i (message.Other e) t (last, passes, is) small = record {
   taken = omega (arith, ap (λ (x : ClientState). x.taken) is, t.taken, small);
 }
 
-module _ (old : ClientState) (H G : List Entry) (downs : List Down) (next : AreNext old H G downs) where
+module _ (old : ClientState) (H G : List Entry) (downs : List Down) (next : AreNextMessages old H G downs) where
   few_entries : length H ≤ 8000
   few_entries = let few = valid_few old.size next.sites H next.valid in omega (arith, few, next.few)
 
@@ -54,7 +54,7 @@ module _ (old : ClientState) (H G : List Entry) (downs : List Down) (next : AreN
       ∙ get_or-map-range_with_len (down_at old.size H old.site) 0 (length H) (old.taken + i) (old.taken + i) d (within i h).1 (omega arith)))
 
   -- where so many were taken
-  module _ (c : ClientState) (i : ℕ) (t : Took i old c) (h : i < length downs) where
+  module _ (c : ClientState) (i : ℕ) (t : HasTakenMore i old c) (h : i < length downs) where
     pub taken_small : old.taken + i < 8000
     taken_small = let few = few_entries in let more = (within i h).1 in omega (arith, few, more)
 

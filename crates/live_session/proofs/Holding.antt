@@ -9,13 +9,13 @@ use Rattle.sheet_ops.specs.History.{own_entries, IsValidHistory}
 use Rattle.sheet_ops.specs.Represents.{ClientState, ClientRepresents}
 use Rattle.turn_book.specs.declared.kept.Made.{Made}
 use Rattle.turn_book.specs.Entries.{made_by}
-use Rattle.turn_book.specs.Passes.{PassOf, IsSamePass}
+use Rattle.turn_book.specs.Passes.{PassOf, IsSamePass, seen_by, made_in}
 use Rattle.jup_client.proofs.Longer.{goes_on}
 use Rattle.hub.specs.Hubs.{HubOf, opening_of}
 use Rattle.hub.specs.BookEntries.{book_entries}
 use Rattle.hub.specs.Messages.{messages_of}
 use Rattle.hub.proofs.Histories.{items_of, made_items}
-use Rattle.live_session.specs.Sessions.{Stands, seen_by, made_in}
+use Rattle.live_session.specs.Sessions.{ReplicaStands}
 use Rattle.live_session.specs.Pushing.{StandsIn, Finds}
 
 abbrev pub items : List (Made Entry) → List Entry
@@ -43,7 +43,7 @@ module _ (p : PassOf Entry) (hub : HubOf) (f : Finds p hub) where
   own_found = sym (made_items p.number [] hub.entries) ∙ ap items f.made
 
   -- the replica stands in the hold
-  pub stands_found : (c : ClientState) (site : ℕ) (waiting : List Entry) → c.site ≡ site → Stands c p waiting → IsValidHistory hub.size hub.sites hub.entries → StandsIn hub c site waiting
+  pub stands_found : (c : ClientState) (site : ℕ) (waiting : List Entry) → c.site ≡ site → ReplicaStands c p waiting → IsValidHistory hub.size hub.sites hub.entries → StandsIn hub c site waiting
   stands_found c site waiting site_is s valid =
       let opens : opening_of c.size s.sites ≡ opening_of hub.size hub.sites = sym s.opening ∙ sym f.opening in
       let own : own_entries c.site hub.entries ≡ made_in p = ap (λ (n : ℕ). own_entries n hub.entries) (sym s.number) ∙ own_found in
@@ -64,7 +64,7 @@ seen_left q H seen = ap items seen ∙ items_of [] H
 
 -- the replica stands where the hold was left
 pub stands_left : (p q : PassOf Entry) (hub : HubOf) (c : ClientState) (site : ℕ) (waiting : List Entry) → StandsIn hub c site waiting → p.number ≡ c.site → opening_of hub.size hub.sites ≡ p.opening → IsSamePass p q → q.seen ≡ book_entries hub.entries
-    → made_in q ≡ own_entries c.site hub.entries → Stands c q waiting
+    → made_in q ≡ own_entries c.site hub.entries → ReplicaStands c q waiting
 stands_left p q hub c site waiting s number opening same seen made =
     let H : seen_by q ≡ hub.entries = seen_left q hub.entries seen in
     let valid : IsValidHistory c.size hub.sites hub.entries = subst (λ (z : Size). IsValidHistory z hub.sites hub.entries) (sym s.size) s.valid in
@@ -81,7 +81,7 @@ stands_left p q hub c site waiting s number opening same seen made =
     }
 
 -- a hold that adds nothing
-pub stands_still : (p q : PassOf Entry) (hub : HubOf) (c : ClientState) (waiting : List Entry) → Finds p hub → IsValidHistory hub.size hub.sites hub.entries → IsSamePass p q → q.seen ≡ book_entries hub.entries → q.made ≡ p.made → Stands c p waiting → Stands c q waiting
+pub stands_still : (p q : PassOf Entry) (hub : HubOf) (c : ClientState) (waiting : List Entry) → Finds p hub → IsValidHistory hub.size hub.sites hub.entries → IsSamePass p q → q.seen ≡ book_entries hub.entries → q.made ≡ p.made → ReplicaStands c p waiting → ReplicaStands c q waiting
 stands_still p q hub c waiting f valid same seen made s =
     stands_left p q hub c c.site waiting (stands_found p hub f c c.site waiting refl s valid) s.number f.opening same seen
     (ap items made ∙ (sym (own_found p hub f) ∙ ap (λ (n : ℕ). own_entries n hub.entries) s.number))

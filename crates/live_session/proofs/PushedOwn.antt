@@ -13,13 +13,13 @@ use Rattle.sheet_ops.specs.Represents.{ClientState, ClientRepresents}
 use Rattle.sheet_ops.proofs.Counts.{own_one_more}
 use Rattle.turn_book.specs.declared.kept.Made.{Made}
 use Rattle.turn_book.specs.Entries.{entries_of}
-use Rattle.turn_book.specs.Passes.{PassOf, IsSamePass}
+use Rattle.turn_book.specs.Passes.{PassOf, IsSamePass, seen_by, made_in}
 use Rattle.jup_server.specs.Servers.{entry_of}
 use Rattle.jup_client.proofs.Longer.{goes_on, may_come}
 use Rattle.hub.specs.Hubs.{HubOf, opening_of}
 use Rattle.hub.specs.BookEntries.{book_entries, book_entries_from, book_entry}
 use Rattle.hub.proofs.Histories.{book_entries_more}
-use Rattle.live_session.specs.Sessions.{Stands, seen_by, made_in, entries_by}
+use Rattle.live_session.specs.Sessions.{ReplicaStands, entries_by}
 use Rattle.live_session.specs.Pushing.{Pushes, MayPushFirst, StandsIn, Finds, with_entries}
 use Rattle.live_session.proofs.Holding.{items, own_found, seen_begins, seen_left, stands_left}
 
@@ -146,7 +146,7 @@ module _ (p : PassOf Entry) (site : Site) (old new : HubOf) (waiting left : List
         ∙ (sym (own_many old.entries site w.pushed) ∙ ap (λ (h : HubOf). own_entries site.0 h.entries) (sym w.hub_is)))
 
     -- the replica stands where the hold was left
-    pub stands_pushed : (c : ClientState) → c.site ≡ site.0 → StandsIn new c site.0 (entries_by site left) → IsSamePass p q → q.seen ≡ book_entries new.entries → Stands c q (entries_by site left)
+    pub stands_pushed : (c : ClientState) → c.site ≡ site.0 → StandsIn new c site.0 (entries_by site left) → IsSamePass p q → q.seen ≡ book_entries new.entries → ReplicaStands c q (entries_by site left)
     stands_pushed c is s same seen =
         let opening : opening_of new.size new.sites ≡ p.opening = ap (λ (h : HubOf). opening_of h.size h.sites) w.hub_is ∙ f.opening in
         stands_left p q new c site.0 (entries_by site left) s (number ∙ sym is) opening same seen (own_left ∙ ap (λ (n : ℕ). own_entries n new.entries) (sym is))

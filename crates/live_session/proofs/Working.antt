@@ -16,11 +16,11 @@ use Rattle.jup_client.specs.declared.Down.{Down}
 use Rattle.jup_client.specs.Clients.{down_at, own_entry}
 use Rattle.client_edits.specs.Decided.{with_operation}
 use Rattle.turn_book.specs.declared.kept.Made.{Made}
-use Rattle.turn_book.specs.Passes.{PassOf, IsSamePass}
+use Rattle.turn_book.specs.Passes.{PassOf, IsSamePass, seen_by, made_in}
 use Rattle.hub.specs.Hubs.{opening_of}
 use Rattle.hub.specs.Messages.{messages_of}
-use Rattle.live_session.specs.Sessions.{Stands, IsSession, seen_by, made_in, entries_by, no_pass}
-use Rattle.live_session.specs.Pulling.{AreNext, Took}
+use Rattle.live_session.specs.Sessions.{ReplicaStands, IsSession, entries_by, no_pass}
+use Rattle.live_session.specs.Pulling.{AreNextMessages, HasTakenMore}
 
 abbrev items : List (Made Entry) → List Entry
 items ms = map (λ (m : Made Entry). m.item) ms
@@ -56,7 +56,7 @@ begun site size sites c p site_is size_is issued from to number opening seen mad
     }
 
 -- ---- another state of the replica beside the same pass
-pub replica_changed : (c d : ClientState) (p : PassOf Entry) (waiting more : List Entry) → Stands c p waiting → d.site ≡ c.site → d.size ≡ c.size → d.issued ≤ 1000 → ClientRepresents d (seen_by p) (made_in p ++ more) → Stands d p more
+pub replica_changed : (c d : ClientState) (p : PassOf Entry) (waiting more : List Entry) → ReplicaStands c p waiting → d.site ≡ c.site → d.size ≡ c.size → d.issued ≤ 1000 → ClientRepresents d (seen_by p) (made_in p ++ more) → ReplicaStands d p more
 replica_changed c d p waiting more s site size issued represents = record {
   sites = s.sites;
   opening = s.opening ∙ ap (λ (z : Size). opening_of z s.sites) (sym size);
@@ -70,7 +70,7 @@ replica_changed c d p waiting more s site size issued represents = record {
 }
 
 -- the own entries in the history are a beginning of all own ones
-pub mine_begins : (c : ClientState) (p : PassOf Entry) (waiting : List Entry) → Stands c p waiting → IsPrefixOf (own_entries c.site (seen_by p)) (made_in p ++ waiting)
+pub mine_begins : (c : ClientState) (p : PassOf Entry) (waiting : List Entry) → ReplicaStands c p waiting → IsPrefixOf (own_entries c.site (seen_by p)) (made_in p ++ waiting)
 mine_begins c p waiting s = (waiting, ap (λ (l : List Entry). l ++ waiting) s.own)
 
 -- ---- an edit
@@ -103,7 +103,7 @@ edited_whole site c d (Some p) seen ups more up s items few at is represents = s
 
 -- ---- a pull
 -- the replica once messages are taken
-pub took_stands : (c d : ClientState) (p : PassOf Entry) (waiting : List Entry) (count : ℕ) → Stands c p waiting → Took count c d → ClientRepresents d (seen_by p) (made_in p ++ waiting) → Stands d p waiting
+pub took_stands : (c d : ClientState) (p : PassOf Entry) (waiting : List Entry) (count : ℕ) → ReplicaStands c p waiting → HasTakenMore count c d → ClientRepresents d (seen_by p) (made_in p ++ waiting) → ReplicaStands d p waiting
 took_stands c d p waiting count s took represents =
     let issued = took.issued in
     let few = s.issued in
@@ -113,8 +113,8 @@ took_stands c d p waiting count s took represents =
 module _ {E : Type 0} (site : Site) (c : ClientState) (p q : PassOf Entry) (seen : ℕ) (ups : List Up) (from most : ℕ) (x : Result (List Down) E) (downs : List Down) (was : x ≡ Ok downs) (s : IsSession site c p seen ups)
     (same : IsSamePass p q) (at : from ≡ c.taken)
     (messages : (size : Size) (sites : ℕ) → p.opening ≡ opening_of size sites → IfOk x (λ (l : List Down). l ≡ take most (drop from (messages_of size (seen_by q) site.0))))
-    (few : (size : Size) (sites : ℕ) → p.opening ≡ opening_of size sites → sites ≤ 8) (stands : (d : ClientState) (waiting : List Entry) → Stands d p waiting → Stands d q waiting) where
-  pub stood : Stands c q (entries_by site ups)
+    (few : (size : Size) (sites : ℕ) → p.opening ≡ opening_of size sites → sites ≤ 8) (stands : (d : ClientState) (waiting : List Entry) → ReplicaStands d p waiting → ReplicaStands d q waiting) where
+  pub stood : ReplicaStands c q (entries_by site ups)
   stood = stands c (entries_by site ups) s.stands
 
   opens : p.opening ≡ opening_of c.size stood.sites
@@ -124,7 +124,7 @@ module _ {E : Type 0} (site : Site) (c : ClientState) (p q : PassOf Entry) (seen
   are = subst (λ (y : Result (List Down) E). IfOk y (λ (l : List Down). l ≡ take most (drop from (messages_of c.size (seen_by q) site.0)))) was (messages c.size stood.sites opens)
 
   -- they may be taken
-  pub may_take : AreNext c (seen_by q) (made_in q ++ entries_by site ups) downs
+  pub may_take : AreNextMessages c (seen_by q) (made_in q ++ entries_by site ups) downs
   may_take = record {
     sites = stood.sites;
     few = few c.size stood.sites opens;
@@ -141,7 +141,7 @@ module _ {E : Type 0} (site : Site) (c : ClientState) (p q : PassOf Entry) (seen
       ∙ ap (min most) (length-drop from (messages_of c.size (seen_by q) site.0) ∙ (λ i. length-map-range_with_len (down_at c.size (seen_by q) site.0) 0 (length (seen_by q)) i - at i)))
 
   -- once some of them are taken
-  pub took : (d : ClientState) (n long : ℕ) → long ≡ length (seen_by q) → Took n c d → ClientRepresents d (seen_by q) (made_in q ++ entries_by site ups) → IsSession site d q long ups
+  pub took : (d : ClientState) (n long : ℕ) → long ≡ length (seen_by q) → HasTakenMore n c d → ClientRepresents d (seen_by q) (made_in q ++ entries_by site ups) → IsSession site d q long ups
   took d n long is t represents = record {
     site_is = t.site ∙ s.site_is;
     length_is = is;
@@ -170,7 +170,7 @@ none_taken n most taken long within is = (on_zero, on_right)
 
 -- ---- a sync
 -- a site has no more own entries than it issued
-pub few_own : (c : ClientState) (p : PassOf Entry) (waiting : List Entry) → Stands c p waiting → length (made_in p ++ waiting) ≤ 1000
+pub few_own : (c : ClientState) (p : PassOf Entry) (waiting : List Entry) → ReplicaStands c p waiting → length (made_in p ++ waiting) ≤ 1000
 few_own c p waiting s =
     let count : c.issued ≡ operations (made_in p ++ waiting) = s.represents.issued in
     let few : c.issued ≤ 1000 = s.issued in

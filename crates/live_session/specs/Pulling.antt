@@ -9,7 +9,7 @@ use Rattle.hub.specs.Messages.{messages_of}
 
 -- The messages are those of a history from what the client has taken on, and the client represents that history beside these own
 -- entries.
-pub record AreNext (c : ClientState) (H G : List Entry) (downs : List Down) : Type 0 where
+pub record AreNextMessages (c : ClientState) (H G : List Entry) (downs : List Down) : Type 0 where
   pub sites : ℕ
   pub few : sites ≤ 8
   pub valid : IsValidHistory c.size sites H
@@ -18,7 +18,7 @@ pub record AreNext (c : ClientState) (H G : List Entry) (downs : List Down) : Ty
   pub messages : (most : ℕ) × (downs ≡ take most (drop c.taken (messages_of c.size H c.site)))
 
 -- the client has taken so many entries more, and is that of the same site
-pub record Took (count : ℕ) (old new : ClientState) : Type 0 where
+pub record HasTakenMore (count : ℕ) (old new : ClientState) : Type 0 where
   pub site : new.site ≡ old.site
   pub size : new.size ≡ old.size
   pub issued : new.issued ≡ old.issued

@@ -6,8 +6,7 @@ use Rattle.sheet_ops.specs.declared.operation.Up.{Up}
 use Rattle.sheet_ops.specs.History.{own_entries, IsValidHistory}
 use Rattle.sheet_ops.specs.Represents.{ClientState, ClientRepresents}
 use Rattle.jup_server.specs.Servers.{entry_of}
-use Rattle.turn_book.specs.declared.kept.Made.{Made}
-use Rattle.turn_book.specs.Passes.{PassOf}
+use Rattle.turn_book.specs.Passes.{PassOf, seen_by, made_in}
 use Rattle.hub.specs.Hubs.{opening_of}
 use Rattle.value_snap.specs.Stores.{ReaderOf}
 
@@ -20,20 +19,13 @@ pub record SessionOf : Type 0 where
   pub reader : ReaderOf
   pub read_length : ℕ
 
--- the history that a pass has seen, and the entries that it made
-abbrev pub seen_by : PassOf Entry → List Entry
-seen_by p = map (λ (m : Made Entry). m.item) p.seen
-
-abbrev pub made_in : PassOf Entry → List Entry
-made_in p = map (λ (m : Made Entry). m.item) p.made
-
 -- the entries that a site's messages become
 abbrev pub entries_by : Site → List Up → List Entry
 entries_by site ups = map (entry_of site.0) ups
 
 -- The replica represents the history that the pass has seen, beside the site's own entries: those that the pass made, which are
 -- the own ones there, and then those that wait.
-pub record Stands (c : ClientState) (p : PassOf Entry) (waiting : List Entry) : Type 0 where
+pub record ReplicaStands (c : ClientState) (p : PassOf Entry) (waiting : List Entry) : Type 0 where
   pub sites : ℕ
   pub opening : p.opening ≡ opening_of c.size sites
   pub from : 0 < c.site
@@ -52,4 +44,4 @@ no_pass = record { book = record { words = 0; slots = 0; views_name = 0; atom = 
 pub record IsSession (site : Site) (c : ClientState) (p : PassOf Entry) (seen : ℕ) (unpushed : List Up) : Type 0 where
   pub site_is : c.site ≡ site.0
   pub length_is : seen ≡ length (seen_by p)
-  pub stands : Stands c p (entries_by site unpushed)
+  pub stands : ReplicaStands c p (entries_by site unpushed)

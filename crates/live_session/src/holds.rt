@@ -6,10 +6,10 @@ ghost use Rattle.ss_base.specs.Lists.{IsPrefixOf};
 ghost use Rattle.sheet_ops.specs.declared.operation.Entry.{Entry};
 ghost use Rattle.sheet_ops.specs.History.{IsValidHistory};
 ghost use Rattle.sheet_ops.specs.Represents.{ClientState};
-ghost use Rattle.turn_book.specs.Passes.{IsSamePass};
+ghost use Rattle.turn_book.specs.Passes.{IsSamePass, seen_by, made_in};
 ghost use Rattle.hub.specs.Hubs.{opening_of};
 ghost use Rattle.hub.specs.Messages.{messages_of};
-ghost use Rattle.live_session.specs.Sessions.{Stands, seen_by, made_in, entries_by};
+ghost use Rattle.live_session.specs.Sessions.{ReplicaStands, entries_by};
 
 use crate::pushes::push_waiting;
 use hub::Hub;
@@ -31,7 +31,7 @@ pub(crate) fn push<R: Wait>(
     most: u32,
 ) -> (Pass<Hub>, u32, Result<u32, Memory>)
     requires book { pass.book ≡ book.now.id }
-    requires stands { (c : ClientState) × (c.site ≡ site.0) × Stands c pass (entries_by site unpushed.old.items) }
+    requires stands { (c : ClientState) × (c.site ≡ site.0) × ReplicaStands c pass (entries_by site unpushed.old.items) }
     ensures same { IsSamePass pass result.0 }
     ensures holds { result.0.holds ≡ pass.holds + 1 }
     ensures seen { IsPrefixOf (seen_by pass) (seen_by result.0) }
@@ -39,7 +39,7 @@ pub(crate) fn push<R: Wait>(
     ensures own { made_in result.0 ++ entries_by site unpushed.new.items ≡ made_in pass ++ entries_by site unpushed.old.items }
     ensures count { IfOk result.2 (λ n. length unpushed.old.items ≡ n + length unpushed.new.items) }
     ensures all { IfOk result.2 (λ n. n ≡ min most (length unpushed.old.items)) }
-    ensures stands { (c : ClientState) → c.site ≡ site.0 → Stands c pass (entries_by site unpushed.old.items) → Stands c result.0 (entries_by site unpushed.new.items) }
+    ensures stands { (c : ClientState) → c.site ≡ site.0 → ReplicaStands c pass (entries_by site unpushed.old.items) → ReplicaStands c result.0 (entries_by site unpushed.new.items) }
 {
     let mut held = book.enter(rt, pass);
     let pushed = push_waiting(held.state(), site, unpushed, most);
@@ -65,7 +65,7 @@ pub(crate) fn fetch<R: Wait>(
     ensures made { result.0.made ≡ pass.made }
     ensures messages { (size : Size) (sites : ℕ) → pass.opening ≡ opening_of size sites → IfOk result.2 (λ downs. downs ≡ take most (drop from (messages_of size (seen_by result.0) site.0))) }
     ensures few { (size : Size) (sites : ℕ) → pass.opening ≡ opening_of size sites → sites ≤ 8 }
-    ensures stands { (c : ClientState) (waiting : List Entry) → Stands c pass waiting → Stands c result.0 waiting }
+    ensures stands { (c : ClientState) (waiting : List Entry) → ReplicaStands c pass waiting → ReplicaStands c result.0 waiting }
 {
     let mut held = book.enter(rt, pass);
     let downs = held.state().fetch(site, from, most);
@@ -87,7 +87,7 @@ pub(crate) fn end<R: Wait>(
     ensures seen { IsPrefixOf (seen_by pass) (seen_by result.0) }
     ensures length { result.1 ≡ length (seen_by result.0) }
     ensures made { result.0.made ≡ pass.made }
-    ensures stands { (c : ClientState) (waiting : List Entry) → Stands c pass waiting → Stands c result.0 waiting }
+    ensures stands { (c : ClientState) (waiting : List Entry) → ReplicaStands c pass waiting → ReplicaStands c result.0 waiting }
 {
     let mut held = book.enter(rt, pass);
     held.state().end_site(site);

@@ -7,15 +7,15 @@ ghost use Rattle.sheet_ops.specs.Placed.{placed};
 ghost use Rattle.jup_client.specs.Clients.{own_entry};
 ghost use Rattle.sort_keys.specs.Keys.{IsOrderly};
 ghost use Rattle.client_edits.specs.Decided.{Decides, with_operation};
-ghost use Rattle.turn_book.specs.Passes.{IsSamePass};
+ghost use Rattle.turn_book.specs.Passes.{IsSamePass, seen_by, made_in};
 ghost use Rattle.hub.specs.Hubs.{opening_of};
 ghost use Rattle.value_snap.specs.declared.published.Published.{Published};
 ghost use Rattle.value_snap.specs.Lists.{upto_from};
 ghost use Rattle.value_snap.specs.Parts.{IsWithin, view_of_range};
 ghost use Rattle.value_snap.specs.Refusals.{IsNoEntry, IsOutside};
 ghost use Rattle.value_snap.specs.Stores.{known_snapshot};
-ghost use Rattle.live_session.specs.Pulling.{Took};
-ghost use Rattle.live_session.specs.Sessions.{Stands, seen_by, made_in};
+ghost use Rattle.live_session.specs.Pulling.{HasTakenMore};
+ghost use Rattle.live_session.specs.Sessions.{ReplicaStands};
 
 use crate::holds;
 use crate::takes::take_all;
@@ -159,10 +159,10 @@ impl Session {
         ensures holds { self.new.pass.holds ≡ self.old.pass.holds + 1 }
         ensures seen { IsPrefixOf (seen_by self.old.pass) (seen_by self.new.pass) }
         ensures made { self.new.pass.made ≡ self.old.pass.made }
-        ensures ok { IfOk result (λ n. Took n self.old.client self.new.client) }
+        ensures ok { IfOk result (λ n. HasTakenMore n self.old.client self.new.client) }
         ensures all { IfOk result (λ n. n ≡ min most (length (seen_by self.new.pass) - self.old.client.taken)) }
         ensures none { IfOk result (λ n. (n ≡ 0) ↔ ((most ≡ 0) ⊎ (self.old.client.taken ≡ length (seen_by self.new.pass)))) }
-        ensures err { OnErr result ((n : ℕ) × (n ≤ most) × Took n self.old.client self.new.client) }
+        ensures err { OnErr result ((n : ℕ) × (n ≤ most) × HasTakenMore n self.old.client self.new.client) }
     {
         let from = self.taken();
         let Some(pass) = self.pass.take() else {
@@ -237,7 +237,7 @@ impl Session {
     /// How many entries of the history it has taken. It takes no memory.
     pub fn taken(&self) -> u32
         ensures taken { result ≡ self.now.client.taken }
-        ensures stands { Stands self.now.client self.now.pass self.now.unpushed }
+        ensures stands { ReplicaStands self.now.client self.now.pass self.now.unpushed }
     {
         let _site = self.site;
         self.client.taken()
@@ -278,7 +278,7 @@ impl Session {
     /// Its replica, its pass and its reader. It takes no memory.
     pub fn finish(self) -> Ended
         ensures own { (result.client ≡ self.client) × (result.pass ≡ self.pass) × (result.reader ≡ self.reader) }
-        ensures stands { Stands result.client result.pass self.unpushed }
+        ensures stands { ReplicaStands result.client result.pass self.unpushed }
     {
         let Session {
             client,

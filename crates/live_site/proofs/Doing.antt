@@ -26,9 +26,10 @@ use Rattle.value_snap.specs.declared.published.Published.{Published}
 use Rattle.value_snap.specs.Lists.{replay_of, upto_from}
 use Rattle.value_snap.proofs.Replays.{replay_length}
 use Rattle.recalc_loop.specs.Standing.{snapshot_values}
-use Rattle.live_session.specs.Sessions.{SessionOf, Stands, seen_by, made_in}
-use Rattle.live_session.specs.Pulling.{Took}
-use Rattle.live_record.specs.Replays.{Beside, Done, own_within, decided, after_push, MayPush, after_pull, PullsSoMany, MayPull, after_sync, MaySync, after_edit, with_own}
+use Rattle.live_session.specs.Sessions.{SessionOf, ReplicaStands}
+use Rattle.turn_book.specs.Passes.{seen_by, made_in}
+use Rattle.live_session.specs.Pulling.{HasTakenMore}
+use Rattle.live_record.specs.Replays.{Beside, Done, own_within, decided_beside, after_push, MayNotePush, after_pull, PullsSoMany, MayNotePull, after_sync, MayNoteSync, after_edit, with_own}
 use Rattle.live_site.specs.SiteRuns.{ShowsKnown}
 use Rattle.live_site.specs.Lines.{Agrees, beside_session}
 
@@ -55,7 +56,7 @@ module _ (name : List ℕ) (s t : SessionOf) (log : List ℕ) (d : Done) (agrees
         let so = so_many count n (length d.own) d.pushed (length s.unpushed) all few (omega (arith, ap length agrees.own, length-append (made_in s.pass) s.unpushed, agrees.pushed)) in
         omega (arith, so, left, agrees.pushed, ap length own, length-append (made_in s.pass) s.unpushed, length-append (made_in t.pass) t.unpushed)
 
-    pub may_push : MayPush (beside_session name t) d count l
+    pub may_push : MayNotePush (beside_session name t) d count l
     may_push = record {
       within = omega (arith, l_is);
       holds = own_all t.client.site (seen_by t.pass) (made_in t.pass) l mine (omega (arith, l_is)) ∙ sym now_pushed;
@@ -76,7 +77,7 @@ module _ (name : List ℕ) (s t : SessionOf) (log : List ℕ) (d : Done) (agrees
         }
 
   -- ---- a pull
-  module _ (count : Option ℕ) (n l : ℕ) (same : t ≡ record s { pass = t.pass; client = t.client }) (seen : IsPrefixOf (seen_by s.pass) (seen_by t.pass)) (made : t.pass.made ≡ s.pass.made) (took : Took n s.client t.client)
+  module _ (count : Option ℕ) (n l : ℕ) (same : t ≡ record s { pass = t.pass; client = t.client }) (seen : IsPrefixOf (seen_by s.pass) (seen_by t.pass)) (made : t.pass.made ≡ s.pass.made) (took : HasTakenMore n s.client t.client)
       (all : n ≡ min (most_of count) (length (seen_by t.pass) - s.client.taken)) (few : length (seen_by t.pass) ≤ 4294967295) (mine : own_entries t.client.site (seen_by t.pass) ≡ made_in t.pass) (within : t.client.taken ≤ length (seen_by t.pass)) (l_is : l ≡ t.client.taken) where
     same_made : made_in t.pass ≡ made_in s.pass
     same_made = λ i. made_in (record t.pass { made = made i })
@@ -94,7 +95,7 @@ module _ (name : List ℕ) (s t : SessionOf) (log : List ℕ) (d : Done) (agrees
         let grows = own_grows t.client.site (seen_by t.pass) l (length (seen_by t.pass)) (omega (arith, l_is, within)) in
         (omega (arith, most, l_is, took.taken, agrees.taken), omega (arith, most, more, l_is, took.taken, agrees.taken, agrees.pushed_to, within), omega (arith, grows, own_is))
 
-    pub may_pull : MayPull (beside_session name t) d count l
+    pub may_pull : MayNotePull (beside_session name t) d count l
     may_pull = record {
       within = omega (arith, l_is, within);
       from = omega (arith, l_is, took.taken, agrees.taken);
@@ -121,7 +122,7 @@ module _ (name : List ℕ) (s t : SessionOf) (log : List ℕ) (d : Done) (agrees
     all_own : d.own ≡ made_in t.pass
     all_own = agrees.own ∙ (sym own ∙ (ap (λ (w : List Entry). made_in t.pass ++ w) none ∙ append-nil (made_in t.pass)))
 
-    pub may_sync : MaySync (beside_session name t) d l
+    pub may_sync : MayNoteSync (beside_session name t) d l
     may_sync = record {
       shown = (snapshot_values (replay_of t.client.size told.0), (told.0, told.1, replay_length t.client.size told.0 ∙ sym told.2, refl));
       holds = omega (arith, own_all t.client.site (seen_by t.pass) (made_in t.pass) l mine reach, ap length all_own);
@@ -151,7 +152,7 @@ orderly (edit.DelCol at) h = tt
 orderly (edit.Copy from to) h = h
 orderly (edit.Sort first last col down) h = h
 
-module _ (name : List ℕ) (s : SessionOf) (log : List ℕ) (d : Done) (agrees : Agrees d s log) (stands : Stands s.client s.pass s.unpushed) where
+module _ (name : List ℕ) (s : SessionOf) (log : List ℕ) (d : Done) (agrees : Agrees d s log) (stands : ReplicaStands s.client s.pass s.unpushed) where
   abbrev sight : IdSheet
   sight = view s.client.size (seen_by s.pass) s.client.site d.taken d.own
 
@@ -165,7 +166,7 @@ module _ (name : List ℕ) (s : SessionOf) (log : List ℕ) (d : Done) (agrees :
       (views_fresh s.client.size stands.sites (seen_by s.pass) stands.valid s.client.site stands.from s.client.taken r.within (made_in s.pass ++ s.unpushed) r.ordered.agrees r.ordered.rises).formed
 
   -- what an edit comes to at the client it comes to beside the history
-  decided_here : (e : Edit) (x : Result Intent EditErr) → Decides s.client e x → decided (beside_session name s) d e ≡ x
+  decided_here : (e : Edit) (x : Result Intent EditErr) → Decides s.client e x → decided_beside (beside_session name s) d e ≡ x
   decided_here e x h =
       ap (λ (n : ℕ). unless_spent n (intended sight e (keys_of sight e))) (ap operations agrees.own ∙ sym stands.represents.issued)
       ∙ h sight formed (ap placed sees ∙ sym stands.represents.sheet)

@@ -8,7 +8,7 @@ use Rattle.ss_base.specs.declared.types.Size.{Size}
 use Rattle.ss_base.specs.Lists.{IsPrefixOf}
 use Rattle.sheet_value.specs.Tables.{Table}
 use Rattle.value_snap.specs.declared.published.Published.{Published}
-use Rattle.turn_book.specs.Passes.{PassOf, IsSamePass}
+use Rattle.turn_book.specs.Passes.{PassOf, IsSamePass, seen_by, made_in}
 use Rattle.sheet_ops.specs.declared.edit.Edit.{Edit}
 use Rattle.sheet_ops.specs.declared.edit.EditErr.{EditErr}
 use Rattle.sheet_ops.specs.declared.operation.Intent.{Intent}
@@ -17,8 +17,8 @@ use Rattle.sheet_ops.specs.Represents.{ClientState}
 use Rattle.sheet_ops.proofs.Lengths.{length-operations}
 use Rattle.jup_client.specs.Clients.{own_entry}
 use Rattle.client_edits.specs.Decided.{Decides, with_operation}
-use Rattle.live_session.specs.Pulling.{Took}
-use Rattle.live_session.specs.Sessions.{SessionOf, Stands, seen_by, made_in}
+use Rattle.live_session.specs.Pulling.{HasTakenMore}
+use Rattle.live_session.specs.Sessions.{SessionOf, ReplicaStands}
 use Rattle.sheet_ops.specs.declared.operation.Entry.{Entry}
 use Rattle.value_snap.specs.Stores.{ReaderOf}
 use Rattle.live_script.specs.declared.script.SiteScript.{SiteScript}
@@ -30,7 +30,7 @@ use Rattle.live_record.specs.Replays.{Done, nothing_done, Does}
 use Rattle.live_record.proofs.Later.{does_later, does_then}
 use Rattle.live_site.specs.declared.work.Work.{Work}
 use Rattle.live_site.specs.SiteRuns.{ShowsKnown, beside_seen, is_hold, holds_noted, IsSiteRun}
-use Rattle.live_site.specs.Lines.{GoesOn, Agrees, beside_session, DidLine, DidAll, IsNewSession}
+use Rattle.live_site.specs.Lines.{SessionGoesOn, Agrees, beside_session, DidLine, DidAll, IsNewSession}
 
 -- ---- beginnings
 pub prefix_same : {A : Type 0} (xs ys : List A) → xs ≡ ys → IsPrefixOf xs ys
@@ -40,7 +40,7 @@ pub prefix_trans : {A : Type 0} (xs ys zs : List A) → IsPrefixOf xs ys → IsP
 prefix_trans {A} xs ys zs p q = (p.0 ++ q.0, sym (append_assoc xs p.0 q.0) ∙ (ap (λ (l : List A). l ++ q.0) p.1 ∙ q.1))
 
 -- ---- sessions
-pub goes_nowhere : (s t : SessionOf) → t ≡ s → GoesOn s t
+pub goes_nowhere : (s t : SessionOf) → t ≡ s → SessionGoesOn s t
 goes_nowhere s t e = record {
   pass = record { book = ap (λ (z : SessionOf). z.pass.book) e; number = ap (λ (z : SessionOf). z.pass.number) e; opening = ap (λ (z : SessionOf). z.pass.opening) e };
   seen = prefix_same _ _ (sym (ap (λ (z : SessionOf). seen_by z.pass) e));
@@ -50,7 +50,7 @@ goes_nowhere s t e = record {
   known = prefix_same _ _ (sym (ap (λ (z : SessionOf). z.reader.known) e));
 }
 
-pub goes_further : (s t u : SessionOf) → GoesOn s t → GoesOn t u → GoesOn s u
+pub goes_further : (s t u : SessionOf) → SessionGoesOn s t → SessionGoesOn t u → SessionGoesOn s u
 goes_further s t u a b = record {
   pass = record { book = b.pass.book ∙ a.pass.book; number = b.pass.number ∙ a.pass.number; opening = b.pass.opening ∙ a.pass.opening };
   seen = prefix_trans (seen_by s.pass) (seen_by t.pass) (seen_by u.pass) a.seen b.seen;
@@ -61,7 +61,7 @@ goes_further s t u a b = record {
 }
 
 -- the same replica, over the same pass
-pub goes_by : (s t : SessionOf) → IsSamePass s.pass t.pass → IsPrefixOf (seen_by s.pass) (seen_by t.pass) → t.client.site ≡ s.client.site → t.client.size ≡ s.client.size → t.reader ≡ s.reader → GoesOn s t
+pub goes_by : (s t : SessionOf) → IsSamePass s.pass t.pass → IsPrefixOf (seen_by s.pass) (seen_by t.pass) → t.client.site ≡ s.client.site → t.client.size ≡ s.client.size → t.reader ≡ s.reader → SessionGoesOn s t
 goes_by s t pass seen site size reader = record {
   pass = pass;
   seen = seen;
@@ -72,16 +72,16 @@ goes_by s t pass seen site size reader = record {
 }
 
 module _ (s t : SessionOf) where
-  pub push_goes : t ≡ record s { pass = t.pass; unpushed = t.unpushed } → IsSamePass s.pass t.pass → IsPrefixOf (seen_by s.pass) (seen_by t.pass) → GoesOn s t
+  pub push_goes : t ≡ record s { pass = t.pass; unpushed = t.unpushed } → IsSamePass s.pass t.pass → IsPrefixOf (seen_by s.pass) (seen_by t.pass) → SessionGoesOn s t
   push_goes same pass seen = goes_by s t pass seen (ap (λ (z : SessionOf). z.client.site) same) (ap (λ (z : SessionOf). z.client.size) same) (ap (λ (z : SessionOf). z.reader) same)
 
-  pub end_goes : t ≡ record s { pass = t.pass } → IsSamePass s.pass t.pass → IsPrefixOf (seen_by s.pass) (seen_by t.pass) → GoesOn s t
+  pub end_goes : t ≡ record s { pass = t.pass } → IsSamePass s.pass t.pass → IsPrefixOf (seen_by s.pass) (seen_by t.pass) → SessionGoesOn s t
   end_goes same pass seen = goes_by s t pass seen (ap (λ (z : SessionOf). z.client.site) same) (ap (λ (z : SessionOf). z.client.size) same) (ap (λ (z : SessionOf). z.reader) same)
 
-  pub pull_goes : (n : ℕ) → Took n s.client t.client → t ≡ record s { pass = t.pass; client = t.client } → IsSamePass s.pass t.pass → IsPrefixOf (seen_by s.pass) (seen_by t.pass) → GoesOn s t
+  pub pull_goes : (n : ℕ) → HasTakenMore n s.client t.client → t ≡ record s { pass = t.pass; client = t.client } → IsSamePass s.pass t.pass → IsPrefixOf (seen_by s.pass) (seen_by t.pass) → SessionGoesOn s t
   pull_goes n took same pass seen = goes_by s t pass seen took.site took.size (ap (λ (z : SessionOf). z.reader) same)
 
-  pub sync_goes : t ≡ record s { pass = t.pass; unpushed = t.unpushed; reader = t.reader } → IsSamePass s.pass t.pass → IsPrefixOf (seen_by s.pass) (seen_by t.pass) → t.reader.store ≡ s.reader.store → IsPrefixOf s.reader.known t.reader.known → GoesOn s t
+  pub sync_goes : t ≡ record s { pass = t.pass; unpushed = t.unpushed; reader = t.reader } → IsSamePass s.pass t.pass → IsPrefixOf (seen_by s.pass) (seen_by t.pass) → t.reader.store ≡ s.reader.store → IsPrefixOf s.reader.known t.reader.known → SessionGoesOn s t
   sync_goes same pass seen store known = record {
     pass = pass;
     seen = seen;
@@ -91,7 +91,7 @@ module _ (s t : SessionOf) where
     known = known;
   }
 
-  pub read_goes : t ≡ record s { reader = t.reader; read_length = t.read_length } → t.reader.store ≡ s.reader.store → IsPrefixOf s.reader.known t.reader.known → GoesOn s t
+  pub read_goes : t ≡ record s { reader = t.reader; read_length = t.read_length } → t.reader.store ≡ s.reader.store → IsPrefixOf s.reader.known t.reader.known → SessionGoesOn s t
   read_goes same store known = record {
     pass = record { book = ap (λ (z : SessionOf). z.pass.book) same; number = ap (λ (z : SessionOf). z.pass.number) same; opening = ap (λ (z : SessionOf). z.pass.opening) same };
     seen = prefix_same (seen_by s.pass) (seen_by t.pass) (sym (ap (λ (z : SessionOf). seen_by z.pass) same));
@@ -101,7 +101,7 @@ module _ (s t : SessionOf) where
     known = known;
   }
 
-  edited : (c : ClientState) (w : List Entry) → c.site ≡ s.client.site → c.size ≡ s.client.size → t ≡ record s { client = c; unpushed = w } → GoesOn s t
+  edited : (c : ClientState) (w : List Entry) → c.site ≡ s.client.site → c.size ≡ s.client.size → t ≡ record s { client = c; unpushed = w } → SessionGoesOn s t
   edited c w site size same = record {
     pass = record { book = ap (λ (z : SessionOf). z.pass.book) same; number = ap (λ (z : SessionOf). z.pass.number) same; opening = ap (λ (z : SessionOf). z.pass.opening) same };
     seen = prefix_same (seen_by s.pass) (seen_by t.pass) (sym (ap (λ (z : SessionOf). seen_by z.pass) same));
@@ -112,7 +112,7 @@ module _ (s t : SessionOf) where
   }
 
   pub edit_goes : (answer : Result (Unit {0}) EditErr) (e : Edit) →
-      OnOk answer ((op : Intent) × Decides s.client e (Ok op) × (t ≡ record s { client = with_operation s.client op; unpushed = s.unpushed ++ own_entry s.client op ∷ [] })) → OnErr answer (t ≡ s) → GoesOn s t
+      OnOk answer ((op : Intent) × Decides s.client e (Ok op) × (t ≡ record s { client = with_operation s.client op; unpushed = s.unpushed ++ own_entry s.client op ∷ [] })) → OnErr answer (t ≡ s) → SessionGoesOn s t
   edit_goes (Ok u) e ok err = edited (with_operation s.client ok.0) (s.unpushed ++ own_entry s.client ok.0 ∷ []) refl refl ok.2
   edit_goes (Err x) e ok err = goes_nowhere s t err
 
@@ -122,7 +122,7 @@ module _ (s t : SessionOf) where
   edit_holds (Err x) e ok err = let h = ap (λ (z : SessionOf). z.pass.holds) err in omega (arith, h)
 
   -- a push of all leaves nothing
-  pub all_left : {E : Type 0} (r : Result ℕ E) → Stands s.client s.pass s.unpushed → IfOk r (λ (n : ℕ). length s.unpushed ≡ n + length t.unpushed) → IfOk r (λ (n : ℕ). n ≡ min 4294967295 (length s.unpushed)) → OnOk r (t.unpushed ≡ [])
+  pub all_left : {E : Type 0} (r : Result ℕ E) → ReplicaStands s.client s.pass s.unpushed → IfOk r (λ (n : ℕ). length s.unpushed ≡ n + length t.unpushed) → IfOk r (λ (n : ℕ). n ≡ min 4294967295 (length s.unpushed)) → OnOk r (t.unpushed ≡ [])
   all_left (Ok n) stands count all =
       let a = length-operations (made_in s.pass ++ s.unpushed) in
       let b = length-append (made_in s.pass) s.unpushed in
@@ -140,8 +140,8 @@ left_by_end t u (Ok n) same none = ap (λ (z : SessionOf). z.unpushed) same ∙ 
 left_by_end t u (Err x) same none = tt
 
 -- it goes on to an equal session
-pub session_at : (s t : SessionOf) → t ≡ s → (u : SessionOf) → GoesOn u s → GoesOn u t
-session_at s t same u g = subst (GoesOn u) (sym same) g
+pub session_at : (s t : SessionOf) → t ≡ s → (u : SessionOf) → SessionGoesOn u s → SessionGoesOn u t
+session_at s t same u g = subst (SessionGoesOn u) (sym same) g
 
 -- ---- notes
 holds_more : (ns ms : List Note) → holds_noted (ns ++ ms) ≡ holds_noted ns + holds_noted ms
@@ -157,7 +157,7 @@ holds_more (n ∷ ns) ms = by_kind (is_hold n.kind) refl (holds_more ns ms)
 shows_more : (size : Size) (known more : List Published) → IsPrefixOf known more → (l : ℕ) (T : Table) → ShowsKnown size known l T → ShowsKnown size more l T
 shows_more size known more p l T (L, front, length_is, values) = (L, prefix_trans L known more front p, length_is, values)
 
-pub does_on : (name : List ℕ) (s t : SessionOf) (lines : List SiteLine) (notes : List Note) (end : Done) → GoesOn s t → Does (beside_session name s) lines nothing_done notes end → Does (beside_session name t) lines nothing_done notes end
+pub does_on : (name : List ℕ) (s t : SessionOf) (lines : List SiteLine) (notes : List Note) (end : Done) → SessionGoesOn s t → Does (beside_session name s) lines nothing_done notes end → Does (beside_session name t) lines nothing_done notes end
 does_on name s t lines notes end g does =
     let here : Does (beside_seen s.client.size s.client.site name t.pass t.reader.known) lines nothing_done notes end =
     does_later (beside_session name s) (seen_by t.pass) (ShowsKnown s.client.size t.reader.known) g.seen (shows_more s.client.size s.reader.known t.reader.known g.known) lines notes end does in
@@ -182,7 +182,7 @@ nothing_did name work notes log new =
       holds = let none : holds_noted work.notes ≡ 0 = ap holds_noted notes in omega (arith, none);
     }
 
-pub one_more : (name : List ℕ) (lines : List SiteLine) (line : SiteLine) (old new : Work) → DidAll name lines old → DidLine name line old new → GoesOn old.session new.session → DidAll name (lines ++ line ∷ []) new
+pub one_more : (name : List ℕ) (lines : List SiteLine) (line : SiteLine) (old new : Work) → DidAll name lines old → DidLine name line old new → SessionGoesOn old.session new.session → DidAll name (lines ++ line ∷ []) new
 one_more name lines line old new all one on =
     let last = one.does all.done all.agrees in
     record {
@@ -206,9 +206,9 @@ both_ok (Ok u) (Err y) P Q e p q = absurd (cc)
 both_ok (Err x) b P Q e p q = absurd (cc)
 
 -- ---- the end of all lines
-module _ (s : SiteScript) (w : Work) (t : SessionOf) (end : SiteEnd) (all : DidAll s.name s.lines w) (on : GoesOn w.session t) (same : t ≡ record w.session { pass = t.pass; unpushed = t.unpushed })
+module _ (s : SiteScript) (w : Work) (t : SessionOf) (end : SiteEnd) (all : DidAll s.name s.lines w) (on : SessionGoesOn w.session t) (same : t ≡ record w.session { pass = t.pass; unpushed = t.unpushed })
     (held : w.session.pass.holds ≤ t.pass.holds) (own : made_in t.pass ++ t.unpushed ≡ made_in w.session.pass ++ w.session.unpushed) (none : t.unpushed ≡ [])
-    (client : end.ended.client ≡ t.client) (pass : end.ended.pass ≡ t.pass) (reader : end.ended.reader ≡ t.reader) (stands : Stands end.ended.client end.ended.pass t.unpushed) (notes : end.notes ≡ w.notes) (log : end.log ≡ w.log.items) where
+    (client : end.ended.client ≡ t.client) (pass : end.ended.pass ≡ t.pass) (reader : end.ended.reader ≡ t.reader) (stands : ReplicaStands end.ended.client end.ended.pass t.unpushed) (notes : end.notes ≡ w.notes) (log : end.log ≡ w.log.items) where
   does_seen : Does (beside_session s.name t) s.lines nothing_done w.notes all.done
   does_seen = does_on s.name w.session t s.lines w.notes all.done on all.does
 
@@ -227,5 +227,5 @@ module _ (s : SiteScript) (w : Work) (t : SessionOf) (end : SiteEnd) (all : DidA
     own = all.agrees.own ∙ (sym own ∙ ((λ i. made_in t.pass ++ none i) ∙ (append-nil (made_in t.pass) ∙ (λ i. made_in (sym pass i)))));
     log = all.agrees.log ∙ sym log;
     holds = let n = ap holds_noted notes in let h = ap (λ (p : PassOf Entry). p.holds) pass in omega (arith, n, h, held, all.holds);
-    stands = subst (λ (w : List Entry). Stands end.ended.client end.ended.pass w) none stands;
+    stands = subst (λ (w : List Entry). ReplicaStands end.ended.client end.ended.pass w) none stands;
   }

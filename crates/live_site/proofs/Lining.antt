@@ -20,8 +20,9 @@ use Rattle.value_snap.specs.Lists.{upto_from}
 use Rattle.value_snap.specs.Stores.{known_snapshot}
 use Rattle.value_snap.specs.Views.{store_size}
 use Rattle.recalc_loop.specs.Standing.{snapshot_values}
-use Rattle.live_session.specs.Sessions.{SessionOf, Stands, seen_by, made_in}
-use Rattle.live_session.specs.Pulling.{Took}
+use Rattle.live_session.specs.Sessions.{SessionOf, ReplicaStands}
+use Rattle.turn_book.specs.Passes.{seen_by, made_in}
+use Rattle.live_session.specs.Pulling.{HasTakenMore}
 use Rattle.live_script.specs.declared.script.Action.TheVariants as action
 use Rattle.live_script.specs.declared.script.SiteLine.{SiteLine}
 use Rattle.live_record.specs.declared.note.Note.{Note}
@@ -49,7 +50,7 @@ weaker (Ok u) P Q f p = f p
 weaker (Err e) P Q f p = tt
 
 module _ {E : Type 0} (r : Result (Unit {0}) E) (number : ℕ) (old new : Work) (t : SessionOf) (same : new.session ≡ t) where
-  module _ (e : Edit) (answer : Result (Unit {0}) EditErr) (text : List ℕ) (logged : OnOk r (new.log.items ≡ old.log.items ++ text)) (noted : new.notes ≡ old.notes) (stands : Stands old.session.client old.session.pass old.session.unpushed)
+  module _ (e : Edit) (answer : Result (Unit {0}) EditErr) (text : List ℕ) (logged : OnOk r (new.log.items ≡ old.log.items ++ text)) (noted : new.notes ≡ old.notes) (stands : ReplicaStands old.session.client old.session.pass old.session.unpushed)
       (ok : OnOk answer ((op : Intent) × Decides old.session.client e (Ok op) × (t ≡ record old.session { client = with_operation old.session.client op; unpushed = old.session.unpushed ++ own_entry old.session.client op ∷ [] })))
       (cause : IfErr answer (λ (x : EditErr). x ≢ fault.Memory → Decides old.session.client e (Err x))) (err : OnErr answer (t ≡ old.session)) (held : old.session.pass.holds ≤ t.pass.holds) (is : TextOf answer number text) where
     pub edited_line : (name : List ℕ) → OnOk r (DidLine name (record { number = number; action = action.Edit e }) old new)
@@ -58,7 +59,7 @@ module _ {E : Type 0} (r : Result (Unit {0}) E) (number : ℕ) (old new : Work) 
         did_line name (record { number = number; action = action.Edit e }) [] old new t (old.log.items ++ text) same is_logged (noted ∙ sym (append-nil old.notes)) (omega (arith, held))
         (λ d a. (after_edit (beside_session name t) d number e, (refl, refl), edited_agrees name old.session old.log.items d a stands t answer e number text ok cause err is))) logged
 
-  module _ (l : ℕ) (logged : new.log.items ≡ old.log.items) (held : t.pass.holds ≡ old.session.pass.holds + 1) (seen : IsPrefixOf (seen_by old.session.pass) (seen_by t.pass)) (stands : Stands t.client t.pass t.unpushed) where
+  module _ (l : ℕ) (logged : new.log.items ≡ old.log.items) (held : t.pass.holds ≡ old.session.pass.holds + 1) (seen : IsPrefixOf (seen_by old.session.pass) (seen_by t.pass)) (stands : ReplicaStands t.client t.pass t.unpushed) where
     -- all own entries are few
     few_own : made_in t.pass ++ t.unpushed ≡ made_in old.session.pass ++ old.session.unpushed → length old.session.unpushed ≤ 1000
     few_own own =
@@ -80,7 +81,7 @@ module _ {E : Type 0} (r : Result (Unit {0}) E) (number : ℕ) (old new : Work) 
         ))) noted
 
     pub pulled_line : (count : Option ℕ) (n : ℕ) → OnOk r (new.notes ≡ old.notes ++ record { line = number; kind = kind.Taken; length = l } ∷ []) → t ≡ record old.session { pass = t.pass; client = t.client } → t.pass.made ≡ old.session.pass.made →
-        Took n old.session.client t.client → n ≡ min (most_of count) (length (seen_by t.pass) - old.session.client.taken) → length (seen_by t.pass) < 2 ^ 32 → l ≡ t.client.taken →
+        HasTakenMore n old.session.client t.client → n ≡ min (most_of count) (length (seen_by t.pass) - old.session.client.taken) → length (seen_by t.pass) < 2 ^ 32 → l ≡ t.client.taken →
         (name : List ℕ) → OnOk r (DidLine name (record { number = number; action = action.Pull count }) old new)
     pulled_line count n noted kept made took all few l_is name =
         weaker r (new.notes ≡ old.notes ++ record { line = number; kind = kind.Taken; length = l } ∷ []) (DidLine name (record { number = number; action = action.Pull count }) old new) (λ (is_noted : new.notes ≡ old.notes ++ record { line = number; kind = kind.Taken; length = l } ∷ []).

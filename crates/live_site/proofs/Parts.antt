@@ -20,8 +20,9 @@ use Rattle.value_snap.specs.Stores.{known_snapshot}
 use Rattle.value_snap.specs.Views.{store_size}
 use Rattle.value_snap.proofs.Replays.{replay_length}
 use Rattle.recalc_loop.specs.Standing.{snapshot_values}
-use Rattle.live_session.specs.Sessions.{SessionOf, seen_by, made_in}
-use Rattle.live_record.specs.Replays.{Done, after_read, MayRead}
+use Rattle.live_session.specs.Sessions.{SessionOf}
+use Rattle.turn_book.specs.Passes.{seen_by, made_in}
+use Rattle.live_record.specs.Replays.{Done, after_read, MayNoteRead}
 use Rattle.live_site.specs.Lines.{Agrees, beside_session}
 
 -- ---- what a call answers
@@ -103,7 +104,7 @@ module _ (name : List ℕ) (s t : SessionOf) (log : List ℕ) (d : Done) (agrees
   abbrev read_values : Table
   read_values = snapshot_values (known_snapshot t.reader)
 
-  pub may_read : MayRead (beside_session name t) d t.read_length read_values
+  pub may_read : MayNoteRead (beside_session name t) d t.read_length read_values
   may_read = record {
     later = omega (arith, agrees.read, later);
     shown = (t.reader.known, ([], append-nil t.reader.known), replay_length t.client.size t.reader.known ∙ sym length_is, ap (λ (z : Size). snapshot_values (replay_of z t.reader.known)) same_size);

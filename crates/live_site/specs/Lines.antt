@@ -2,8 +2,8 @@
 use Rattle.std.specs.Prelude.{ℕ, ◌≡◌, ◌≤◌, ◌+◌, List, [], ◌++◌, length}
 use Rattle.ss_base.specs.Lists.{IsPrefixOf}
 use Rattle.value_snap.specs.Lists.{upto_from}
-use Rattle.turn_book.specs.Passes.{IsSamePass}
-use Rattle.live_session.specs.Sessions.{SessionOf, seen_by, made_in}
+use Rattle.turn_book.specs.Passes.{IsSamePass, seen_by, made_in}
+use Rattle.live_session.specs.Sessions.{SessionOf}
 use Rattle.live_script.specs.declared.script.SiteLine.{SiteLine}
 use Rattle.live_record.specs.declared.note.Note.{Note}
 use Rattle.live_record.specs.Replays.{Beside, Done, nothing_done, DoesLine, Does}
@@ -11,7 +11,7 @@ use Rattle.live_site.specs.declared.work.Work.{Work}
 use Rattle.live_site.specs.SiteRuns.{beside_seen, holds_noted}
 
 -- the pass, the client and the store are the same, and no less of the history and of what was published is known
-pub record GoesOn (old new : SessionOf) : Type 0 where
+pub record SessionGoesOn (old new : SessionOf) : Type 0 where
   pub pass : IsSamePass old.pass new.pass
   pub seen : IsPrefixOf (seen_by old.pass) (seen_by new.pass)
   pub site : new.client.site ≡ old.client.site

@@ -5,9 +5,9 @@ use Rattle.ss_base.specs.Lists.{IsPrefixOf}
 use Rattle.sheet_value.specs.Tables.{Table}
 use Rattle.value_snap.specs.declared.published.Published.{Published}
 use Rattle.value_snap.specs.Lists.{replay_of}
-use Rattle.turn_book.specs.Passes.{PassOf}
+use Rattle.turn_book.specs.Passes.{PassOf, seen_by, made_in}
 use Rattle.sheet_ops.specs.declared.operation.Entry.{Entry}
-use Rattle.live_session.specs.Sessions.{Stands, seen_by, made_in}
+use Rattle.live_session.specs.Sessions.{ReplicaStands}
 use Rattle.recalc_loop.specs.Standing.{snapshot_values}
 use Rattle.live_script.specs.declared.script.SiteScript.{SiteScript}
 use Rattle.live_record.specs.declared.note.Note.{Note}
@@ -40,4 +40,4 @@ pub record IsSiteRun (size : Size) (site : ℕ) (s : SiteScript) (end : SiteEnd)
   pub own : done.own ≡ made_in end.ended.pass
   pub log : done.log ≡ end.log
   pub holds : holds_noted end.notes ≤ end.ended.pass.holds
-  pub stands : Stands end.ended.client end.ended.pass []
+  pub stands : ReplicaStands end.ended.client end.ended.pass []

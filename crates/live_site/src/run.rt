@@ -1,10 +1,10 @@
 ghost use Rattle.std.specs.Prelude.{◌≡◌, ◌≤◌, ◌<◌, ◌++◌, ◌&&◌, true, [], is_ok, OnOk};
-ghost use Rattle.turn_book.specs.Passes.{IsSamePass};
+ghost use Rattle.turn_book.specs.Passes.{IsSamePass, made_in};
 ghost use Rattle.ss_base.specs.Lists.{IsPrefixOf};
 ghost use Rattle.value_snap.specs.Views.{store_size};
-ghost use Rattle.live_session.specs.Sessions.{Stands, made_in};
+ghost use Rattle.live_session.specs.Sessions.{ReplicaStands};
 ghost use Rattle.live_script.specs.SoFar.{LinesWithin};
-ghost use Rattle.live_site.specs.Lines.{GoesOn, DidAll, IsNewSession};
+ghost use Rattle.live_site.specs.Lines.{SessionGoesOn, DidAll, IsNewSession};
 ghost use Rattle.live_site.specs.SiteRuns.{IsSiteRun};
 
 use crate::work::Work;
@@ -12,7 +12,7 @@ use hub::Hub;
 use live_record::Note;
 use live_script::{SiteLine, SiteScript};
 use live_session::{Ended, Session};
-use recalc_loop::{Desk, Gate, Point, Room};
+use recalc_loop::{Desk, Gate, Point, Workplace};
 use ss_base::{Memory, Seq, Site, Txt};
 use std::alloc::Global;
 use std::sync::Wait;
@@ -38,7 +38,7 @@ pub struct SiteEnd {
 /// desk.
 ///
 /// The session's reader is that of the site's store, which has the session's size.
-pub fn run_site<J: Room, R: Threads + Wait + Sync, G: Gate>(
+pub fn run_site<J: Workplace, R: Threads + Wait + Sync, G: Gate>(
     rt: &R,
     alloc: Global,
     session: Session,
@@ -91,7 +91,7 @@ fn both_done(lines: &Result<(), Memory>, left: &Result<u32, Memory>) -> bool
 }
 
 /// Does the lines in their order, up to want of memory.
-fn do_lines<J: Room, R: Threads + Wait + Sync, G: Gate>(
+fn do_lines<J: Workplace, R: Threads + Wait + Sync, G: Gate>(
     rt: &R,
     work: &mut Work,
     site: Site,
@@ -111,7 +111,7 @@ fn do_lines<J: Room, R: Threads + Wait + Sync, G: Gate>(
     requires store { work.old.session.reader.store ≡ J.stores site.0 }
     requires size { store_size work.old.session.reader.store ≡ work.old.session.client.size }
     requires within { LinesWithin lines.now }
-    ensures goes_on { GoesOn work.old.session work.new.session }
+    ensures goes_on { SessionGoesOn work.old.session work.new.session }
     ensures did { OnOk result (DidAll name.now lines.now work.new) }
 {
     let post = desk.post(book, gate);
@@ -133,7 +133,7 @@ fn do_lines<J: Room, R: Threads + Wait + Sync, G: Gate>(
 /// left.
 fn leave<R: Wait>(rt: &R, session: &mut Session, book: &Book<Hub>) -> Result<u32, Memory>
     requires { session.old.pass.book ≡ book.now.id }
-    ensures goes_on { GoesOn session.old session.new }
+    ensures goes_on { SessionGoesOn session.old session.new }
     ensures same { session.new ≡ record session.old { pass = session.new.pass; unpushed = session.new.unpushed } }
     ensures holds { session.old.pass.holds ≤ session.new.pass.holds }
     ensures own { made_in session.new.pass ++ session.new.unpushed ≡ made_in session.old.pass ++ session.old.unpushed }

@@ -3,7 +3,7 @@ ghost use Rattle.script_read.specs.Commands.{EditWithin};
 ghost use Rattle.value_snap.specs.Views.{store_size};
 ghost use Rattle.live_script.specs.declared.script.Action.TheVariants as action;
 ghost use Rattle.live_script.specs.SoFar.{ActionWithin};
-ghost use Rattle.live_site.specs.Lines.{GoesOn, DidLine};
+ghost use Rattle.live_site.specs.Lines.{SessionGoesOn, DidLine};
 
 use crate::reading::read_text;
 use hub::Hub;
@@ -42,7 +42,7 @@ impl Work {
         requires has { T.has teller.now self.old.session.client.site }
         requires store { T.stores teller.now self.old.session.client.site ≡ self.old.session.reader.store }
         requires size { store_size self.old.session.reader.store ≡ self.old.session.client.size }
-        ensures goes_on { GoesOn self.old.session self.new.session }
+        ensures goes_on { SessionGoesOn self.old.session self.new.session }
         ensures did { OnOk result (DidLine name.now line.now self.old self.new) }
     {
         match &line.action {
@@ -57,7 +57,7 @@ impl Work {
     /// Does an edit, and logs its refusal.
     fn edit(&mut self, number: u32, edit: &Edit) -> Result<(), Memory>
         requires { EditWithin 4096 edit.now }
-        ensures goes_on { GoesOn self.old.session self.new.session }
+        ensures goes_on { SessionGoesOn self.old.session self.new.session }
         ensures did { (name : List ℕ) → OnOk result (DidLine name (record { number = number; action = action.Edit edit.now }) self.old self.new) }
     {
         let _taken = self.session.taken();
@@ -75,7 +75,7 @@ impl Work {
         book: &Book<Hub>,
     ) -> Result<(), Memory>
         requires { self.old.session.pass.book ≡ book.now.id }
-        ensures goes_on { GoesOn self.old.session self.new.session }
+        ensures goes_on { SessionGoesOn self.old.session self.new.session }
         ensures did { (name : List ℕ) → OnOk result (DidLine name (record { number = number; action = action.Push count }) self.old self.new) }
     {
         self.session.push(rt, book, count.unwrap_or(u32::MAX))?;
@@ -93,7 +93,7 @@ impl Work {
         book: &Book<Hub>,
     ) -> Result<(), Memory>
         requires { self.old.session.pass.book ≡ book.now.id }
-        ensures goes_on { GoesOn self.old.session self.new.session }
+        ensures goes_on { SessionGoesOn self.old.session self.new.session }
         ensures did { (name : List ℕ) → OnOk result (DidLine name (record { number = number; action = action.Pull count }) self.old self.new) }
     {
         self.session.pull(rt, book, count.unwrap_or(u32::MAX))?;
@@ -113,7 +113,7 @@ impl Work {
         requires book { self.old.session.pass.book ≡ book.now.id }
         requires has { T.has teller.now self.old.session.client.site }
         requires store { T.stores teller.now self.old.session.client.site ≡ self.old.session.reader.store }
-        ensures goes_on { GoesOn self.old.session self.new.session }
+        ensures goes_on { SessionGoesOn self.old.session self.new.session }
         ensures did { (name : List ℕ) → OnOk result (DidLine name (record { number = number; action = action.Sync }) self.old self.new) }
     {
         let length = self.session.sync(rt, book, teller)?;
@@ -128,7 +128,7 @@ impl Work {
         requires rows { range.now.top ≤ range.now.bottom }
         requires cols { range.now.left ≤ range.now.right }
         requires size { store_size self.old.session.reader.store ≡ self.old.session.client.size }
-        ensures goes_on { GoesOn self.old.session self.new.session }
+        ensures goes_on { SessionGoesOn self.old.session self.new.session }
         ensures did { OnOk result (DidLine name.now (record { number = number; action = action.Read range.now }) self.old self.new) }
     {
         let text = read_text(

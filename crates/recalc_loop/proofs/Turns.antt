@@ -13,7 +13,7 @@ use Rattle.sheet_ops.specs.Represents.{sheet_at}
 use Rattle.sheet_ops.proofs.Prefixes.{sheet_front}
 use Rattle.sheet_value.specs.declared.batch.Batch.{Batch}
 use Rattle.sheet_value.specs.Tables.{Table}
-use Rattle.turn_book.specs.Passes.{BookId, PassOf, IsSamePass}
+use Rattle.turn_book.specs.Passes.{BookId, PassOf, IsSamePass, items_in}
 use Rattle.value_snap.specs.declared.published.Published.{Published}
 use Rattle.value_snap.specs.declared.published.Published.TheVariants.{Full}
 use Rattle.value_snap.specs.declared.rule.Store.{Store}
@@ -27,7 +27,6 @@ use Rattle.hub.specs.Messages.{effects_of}
 use Rattle.recalc_loop.specs.declared.evaluation.Evaluation.{Evaluation}
 use Rattle.recalc_loop.specs.Changes.{batch_between}
 use Rattle.recalc_loop.specs.Evaluations.{IsEvaluated, AreNext}
-use Rattle.recalc_loop.specs.Histories.{items}
 use Rattle.recalc_loop.specs.Publishing.{batch_of, published, MayHavePublished}
 use Rattle.recalc_loop.specs.Standing.{StandsFor, EachStands, IsSnapshotOf}
 use Rattle.recalc_loop.specs.Desks.{IsDesk, IsCurrent, KeepsDesk, KeepsCurrent}
@@ -108,11 +107,11 @@ module _ (book : BookId) (size : Size) (sites : ℕ) (stores : ℕ → Store) wh
   pub desk_there : (o : Option (PassOf Entry)) (p : PassOf Entry) (qs : List PublisherOf) (spent : Bool) → o ≡ Some p → KeepsDesk book size sites stores o qs spent → IsDesk book size sites stores p qs spent
   desk_there o p qs spent is desk = subst (λ (x : Option (PassOf Entry)). KeepsDesk book size sites stores x qs spent) is desk
 
-  pub current_there : (o : Option (PassOf Entry)) (p : PassOf Entry) (e : Evaluation) (qs : List PublisherOf) → o ≡ Some p → KeepsCurrent size o e qs → IsCurrent size (items p.seen) e qs
+  pub current_there : (o : Option (PassOf Entry)) (p : PassOf Entry) (e : Evaluation) (qs : List PublisherOf) → o ≡ Some p → KeepsCurrent size o e qs → IsCurrent size (items_in p.seen) e qs
   current_there o p e qs is now = subst (λ (x : Option (PassOf Entry)). KeepsCurrent size x e qs) is now
 
   -- a hold, in which the history may have gone on; whether the state is spent isn't known yet
-  pub desk_found : (p p' : PassOf Entry) (qs : List PublisherOf) (spent : Bool) → IsDesk book size sites stores p qs spent → IsSamePass p p' → IsPrefixOf (items p.seen) (items p'.seen) → IsDesk book size sites stores p' qs true
+  pub desk_found : (p p' : PassOf Entry) (qs : List PublisherOf) (spent : Bool) → IsDesk book size sites stores p qs spent → IsSamePass p p' → IsPrefixOf (items_in p.seen) (items_in p'.seen) → IsDesk book size sites stores p' qs true
   desk_found p p' qs spent desk same more = record {
     book_is = same.book ∙ desk.book_is;
     number = same.number ∙ desk.number;
@@ -124,7 +123,7 @@ module _ (book : BookId) (size : Size) (sites : ℕ) (stores : ℕ → Store) wh
     stores_are = desk.stores_are;
     sized = desk.sized;
     unclosed = desk.unclosed;
-    each = λ k q h. each_later size (slice_index_or qs k q).list (items p.seen) (items p'.seen) more (desk.each k q h);
+    each = λ k q h. each_later size (slice_index_or qs k q).list (items_in p.seen) (items_in p'.seen) more (desk.each k q h);
     unspent = λ clash. not_spent clash;
     whole = λ clash. not_spent clash;
   }
@@ -145,21 +144,21 @@ module _ (book : BookId) (size : Size) (sites : ℕ) (stores : ℕ → Store) wh
       stores_are = stores_are;
       sized = sized;
       unclosed = λ k q inside. ap is_ended (none k q inside);
-      each = λ k q inside. subst (λ (l : List Published). EachStands size l (items p.seen)) (sym (none k q inside)) (each_first size (items p.seen));
+      each = λ k q inside. subst (λ (l : List Published). EachStands size l (items_in p.seen)) (sym (none k q inside)) (each_first size (items_in p.seen));
       unspent = λ same. unspent;
-      whole = λ same k q inside. subst (λ (l : List Published). StandsFor size l (items p.seen)) (sym (none k q inside)) (subst (λ (H : List Entry). StandsFor size [] H) (sym (ap items unseen)) (first_stands size));
+      whole = λ same k q inside. subst (λ (l : List Published). StandsFor size l (items_in p.seen)) (sym (none k q inside)) (subst (λ (H : List Entry). StandsFor size [] H) (sym (ap items_in unseen)) (first_stands size));
     }
 
-    pub current_first : (e : Evaluation) → IsEvaluated size [] e → IsCurrent size (items p.seen) e qs
+    pub current_first : (e : Evaluation) → IsEvaluated size [] e → IsCurrent size (items_in p.seen) e qs
     current_first e now = record {
-      evaluated = subst (λ (H : List Entry). IsEvaluated size H e) (sym (ap items unseen)) now;
+      evaluated = subst (λ (H : List Entry). IsEvaluated size H e) (sym (ap items_in unseen)) now;
       shown = λ k q inside. subst (λ (l : List Published). IsSnapshotOf e.values (replay_of size l)) (sym (none k q inside)) (subst (λ (T : Table). IsSnapshotOf T (replay_of size [])) (sym now.values) (first_shown size));
     }
 
   -- a turn with nothing new
-  module _ (p : PassOf Entry) (h : List Entry) (qs : List PublisherOf) (e : Evaluation) (begins : IsPrefixOf h (items p.seen)) (before : IsCurrent size h e qs) (next : AreNext size sites (items p.seen) e []) where
-    history_same : h ≡ items p.seen
-    history_same = nothing_lacks size h (items p.seen) e before.evaluated sites begins next
+  module _ (p : PassOf Entry) (h : List Entry) (qs : List PublisherOf) (e : Evaluation) (begins : IsPrefixOf h (items_in p.seen)) (before : IsCurrent size h e qs) (next : AreNext size sites (items_in p.seen) e []) where
+    history_same : h ≡ items_in p.seen
+    history_same = nothing_lacks size h (items_in p.seen) e before.evaluated sites begins next
 
     pub desk_same : IsDesk book size sites stores p qs true → All (λ (q : PublisherOf). q.spent ≡ false) qs → All (λ (q : PublisherOf). StandsFor size q.list h) qs → IsDesk book size sites stores p qs false
     desk_same desk unspent whole = record {
@@ -178,28 +177,28 @@ module _ (book : BookId) (size : Size) (sites : ℕ) (stores : ℕ → Store) wh
       whole = λ same. subst (λ (H : List Entry). All (λ (q : PublisherOf). StandsFor size q.list H) qs) history_same whole;
     }
 
-    pub current_same : IsCurrent size (items p.seen) e qs
+    pub current_same : IsCurrent size (items_in p.seen) e qs
     current_same = subst (λ (H : List Entry). IsCurrent size H e qs) history_same before
 
   -- what was found is what the evaluation lacks
-  pub are_next : (p p' : PassOf Entry) (e : Evaluation) (qs : List PublisherOf) (effects : List Effect) → IsDesk book size sites stores p qs false → IsCurrent size (items p.seen) e qs → IsPrefixOf (items p.seen) (items p'.seen) →
-      IsValidHistory size sites (items p'.seen) → effects ≡ drop e.length (effects_of size (items p'.seen)) → AreNext size sites (items p'.seen) e effects
+  pub are_next : (p p' : PassOf Entry) (e : Evaluation) (qs : List PublisherOf) (effects : List Effect) → IsDesk book size sites stores p qs false → IsCurrent size (items_in p.seen) e qs → IsPrefixOf (items_in p.seen) (items_in p'.seen) →
+      IsValidHistory size sites (items_in p'.seen) → effects ≡ drop e.length (effects_of size (items_in p'.seen)) → AreNext size sites (items_in p'.seen) e effects
   are_next p p' e qs effects desk now more valid is =
-      let h = items p.seen in
+      let h = items_in p.seen in
       let count = now.evaluated.count in
       record {
         rows = desk.rows;
         cols = desk.cols;
         few = desk.few;
         valid = valid;
-        within = let long : length h + length more.0 ≡ length (items p'.seen) = sym (length-append h more.0) ∙ ap length more.1 in omega (arith, count, long);
+        within = let long : length h + length more.0 ≡ length (items_in p'.seen) = sym (length-append h more.0) ∙ ap length more.1 in omega (arith, count, long);
         sheet = ap placed (subst (λ (H : List Entry). sheet_at size H e.length ≡ sheet_of size h) more.1 (ap (sheet_at size (h ++ more.0)) count ∙ sheet_front size h more.0)) ∙ now.evaluated.sheet;
         effects_are = is;
       }
 
-  module _ (p : PassOf Entry) (h : List Entry) (qs : List PublisherOf) (desk : IsDesk book size sites stores p qs true) (e e' : Evaluation) (before : IsCurrent size h e qs) (now : IsEvaluated size (items p.seen) e') (b : Batch) (b_is : b ≡ batch_between e'.length e.values e'.values) where
+  module _ (p : PassOf Entry) (h : List Entry) (qs : List PublisherOf) (desk : IsDesk book size sites stores p qs true) (e e' : Evaluation) (before : IsCurrent size h e qs) (now : IsEvaluated size (items_in p.seen) e') (b : Batch) (b_is : b ≡ batch_between e'.length e.values e'.values) where
     abbrev H : List Entry
-    H = items p.seen
+    H = items_in p.seen
 
     batch_is : b ≡ batch_between (length H) e.values e'.values
     batch_is = b_is ∙ ap (λ (n : ℕ). batch_between n e.values e'.values) now.count

@@ -2,7 +2,7 @@
 use Rattle.std.specs.Prelude.{◌≡◌, ◌≤◌, ℕ, ◌+◌, Bool, false, List, [], length, All, Option, Some, None, slice_get}
 use Rattle.ss_base.specs.declared.types.Size.{Size}
 use Rattle.sheet_ops.specs.declared.operation.Entry.{Entry}
-use Rattle.turn_book.specs.Passes.{BookId, PassOf}
+use Rattle.turn_book.specs.Passes.{BookId, PassOf, items_in}
 use Rattle.value_snap.specs.declared.rule.Store.{Store}
 use Rattle.value_snap.specs.Lists.{is_ended, replay_of}
 use Rattle.value_snap.specs.Stores.{PublisherOf}
@@ -10,7 +10,6 @@ use Rattle.value_snap.specs.Views.{store_size}
 use Rattle.hub.specs.Hubs.{opening_of}
 use Rattle.recalc_loop.specs.declared.evaluation.Evaluation.{Evaluation}
 use Rattle.recalc_loop.specs.Evaluations.{IsEvaluated}
-use Rattle.recalc_loop.specs.Histories.{items}
 use Rattle.recalc_loop.specs.Standing.{EachStands, StandsFor, IsSnapshotOf}
 
 -- the history that its pass has seen and the number of its holds, its publishers, and whether a turn was refused
@@ -21,7 +20,7 @@ pub record DeskOf : Type 0 where
   pub spent : Bool
 
 abbrev pub desk_of : Option (PassOf Entry) → List PublisherOf → Bool → DeskOf
-desk_of (Some p) qs spent = record { seen = items p.seen; holds = p.holds; publishers = qs; spent = spent }
+desk_of (Some p) qs spent = record { seen = items_in p.seen; holds = p.holds; publishers = qs; spent = spent }
 desk_of None qs spent = record { seen = []; holds = 0; publishers = qs; spent = spent }
 
 -- The pass is the book's first one, and there is a publisher for the store of each site. No list of theirs has an end mark, and
@@ -38,9 +37,9 @@ pub record IsDesk (book : BookId) (size : Size) (sites : ℕ) (stores : ℕ → 
   pub stores_are : (i : ℕ) (q : PublisherOf) → slice_get qs i ≡ Some q → q.store ≡ stores (i + 1)
   pub sized : (i : ℕ) (q : PublisherOf) → slice_get qs i ≡ Some q → store_size q.store ≡ size
   pub unclosed : All (λ (q : PublisherOf). is_ended q.list ≡ false) qs
-  pub each : All (λ (q : PublisherOf). EachStands size q.list (items p.seen)) qs
+  pub each : All (λ (q : PublisherOf). EachStands size q.list (items_in p.seen)) qs
   pub unspent : spent ≡ false → All (λ (q : PublisherOf). q.spent ≡ false) qs
-  pub whole : spent ≡ false → All (λ (q : PublisherOf). StandsFor size q.list (items p.seen)) qs
+  pub whole : spent ≡ false → All (λ (q : PublisherOf). StandsFor size q.list (items_in p.seen)) qs
 
 abbrev pub KeepsDesk : BookId → Size → ℕ → (ℕ → Store) → Option (PassOf Entry) → List PublisherOf → Bool → Type 0
 KeepsDesk book size sites stores (Some p) qs spent = IsDesk book size sites stores p qs spent
@@ -52,5 +51,5 @@ pub record IsCurrent (size : Size) (H : List Entry) (e : Evaluation) (qs : List 
   pub shown : All (λ (q : PublisherOf). IsSnapshotOf e.values (replay_of size q.list)) qs
 
 abbrev pub KeepsCurrent : Size → Option (PassOf Entry) → Evaluation → List PublisherOf → Type 0
-KeepsCurrent size (Some p) e qs = IsCurrent size (items p.seen) e qs
+KeepsCurrent size (Some p) e qs = IsCurrent size (items_in p.seen) e qs
 KeepsCurrent size None e qs = ⊥

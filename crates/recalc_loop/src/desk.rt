@@ -3,8 +3,8 @@ ghost use Rattle.recalc_loop.specs.Desks.{IsDesk};
 
 use crate::gate::Gate;
 use crate::publishing::end_all;
-use crate::room::Room;
 use crate::state::{DeskState, Finished};
+use crate::workplace::Workplace;
 use crossbeam_utils::sync::{EventCount, Parker, Unparker};
 use hub::Hub;
 use ss_base::{Memory, Site};
@@ -19,7 +19,7 @@ pub type Nap = Parker;
 
 /// The desk, which threads share: its state under a lock, and what wakes those who wait for more of
 /// the history. It can't be dropped: `finish` takes it apart.
-pub struct Desk<J: Room> {
+pub struct Desk<J: Workplace> {
     state: Mutex<DeskState<J>>,
     /// Wakes the thread that runs the desk.
     unparker: Unparker,
@@ -27,7 +27,7 @@ pub struct Desk<J: Room> {
     askers: EventCount,
 }
 
-impl<J: Room> Desk<J> {
+impl<J: Workplace> Desk<J> {
     /// Puts a state behind a lock. Where it is refused, its publishers are ended.
     pub fn new<R: Wait>(
         rt: &R,
@@ -130,14 +130,14 @@ fn parking(alloc: Global) -> Result<(Nap, Unparker), Memory> {
 /// asked for, it sleeps until the desk is woken, and makes another. After `Memory` what the turns
 /// published stays.
 #[derive(Drop)]
-pub struct Post<'a, J: Room, G: Gate> {
+pub struct Post<'a, J: Workplace, G: Gate> {
     desk: &'a Desk<J>,
     book: &'a Book<Hub>,
     gate: &'a G,
     ghost book_is: { book.now.id ≡ J.book },
 }
 
-impl<'a, J: Room, G: Gate> Teller for Post<'a, J, G> {
+impl<'a, J: Workplace, G: Gate> Teller for Post<'a, J, G> {
     ghost use Rattle.std.specs.Prelude.{◌≤◌, ◌<◌};
 
     ghost stores = { λ p n. J.stores n };

@@ -2,10 +2,9 @@ ghost use Rattle.std.specs.Prelude.{◌≡◌, ◌≤◌, ◌+◌, ℕ, length, 
 ghost use Rattle.ss_base.specs.declared.types.Size.{Size};
 ghost use Rattle.ss_base.specs.Lists.{IsPrefixOf};
 ghost use Rattle.sheet_ops.specs.History.{IsValidHistory};
-ghost use Rattle.turn_book.specs.Passes.{IsSamePass};
+ghost use Rattle.turn_book.specs.Passes.{IsSamePass, items_in};
 ghost use Rattle.hub.specs.Hubs.{opening_of};
 ghost use Rattle.hub.specs.Messages.{effects_of};
-ghost use Rattle.recalc_loop.specs.Histories.{items};
 
 use hub::Hub;
 use sheet_ops::Effect;
@@ -26,10 +25,10 @@ pub(crate) fn take_new<R: Wait>(rt: &R, book: &Book<Hub>, pass: Pass<Hub>, from:
     requires book { pass.book ≡ book.now.id }
     requires from { from ≤ length pass.seen }
     ensures same { IsSamePass pass result.pass }
-    ensures seen { IsPrefixOf (items pass.seen) (items result.pass.seen) }
+    ensures seen { IsPrefixOf (items_in pass.seen) (items_in result.pass.seen) }
     ensures holds { result.pass.holds ≡ pass.holds + 1 }
-    ensures valid { (size : Size) (sites : ℕ) → pass.opening ≡ opening_of size sites → IsValidHistory size sites (items result.pass.seen) }
-    ensures effects { (size : Size) (sites : ℕ) → pass.opening ≡ opening_of size sites → IfOk result.effects (λ es. es ≡ drop from (effects_of size (items result.pass.seen))) }
+    ensures valid { (size : Size) (sites : ℕ) → pass.opening ≡ opening_of size sites → IsValidHistory size sites (items_in result.pass.seen) }
+    ensures effects { (size : Size) (sites : ℕ) → pass.opening ≡ opening_of size sites → IfOk result.effects (λ es. es ≡ drop from (effects_of size (items_in result.pass.seen))) }
 {
     let mut held = book.enter(rt, pass);
     let hub = held.state();

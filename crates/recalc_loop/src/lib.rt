@@ -7,12 +7,12 @@ mod evaluation;
 mod gate;
 mod hold;
 mod publishing;
-mod room;
 mod state;
+mod workplace;
 
 pub use changes::{batch_between, changes_between};
 pub use desk::{Desk, Nap, Post};
 pub use gate::{Gate, NoGate, Point};
 pub use publishing::end_all;
-pub use room::Room;
 pub use state::{DeskState, Finished};
+pub use workplace::Workplace;

@@ -6,7 +6,7 @@ ghost use Rattle.value_snap.specs.Views.{store_size};
 ghost use Rattle.hub.specs.Hubs.{opening_of};
 ghost use Rattle.recalc_loop.specs.Desks.{desk_of, IsCurrent, IsDesk};
 ghost use Rattle.recalc_loop.specs.Evaluations.{AreNext, IsEvaluated};
-ghost use Rattle.recalc_loop.specs.Histories.{items};
+ghost use Rattle.turn_book.specs.Passes.{items_in};
 ghost use Rattle.recalc_loop.specs.Publishing.{batch_of, published, MayHavePublished};
 ghost use Rattle.recalc_loop.specs.Standing.{StandsFor};
 
@@ -14,7 +14,7 @@ use crate::evaluation::Evaluation;
 use crate::gate::{Gate, Point};
 use crate::hold::{Found, take_new};
 use crate::publishing::{end_all, publish_all};
-use crate::room::Room;
+use crate::workplace::Workplace;
 use hub::Hub;
 use sheet_ops::Effect;
 use ss_base::{Memory, Seq, Site, Size};
@@ -33,7 +33,7 @@ pub(crate) struct Slot {
 /// What the desk keeps under its lock: its pass, the evaluation, and the publishers of the stores. It
 /// can't be dropped. Contracts see the history that the pass has seen, how many holds it had, the
 /// publishers, and whether a turn was refused.
-pub struct DeskState<J: Room> {
+pub struct DeskState<J: Workplace> {
     alloc: Global,
     slot: Slot,
     evaluation: Evaluation,
@@ -46,7 +46,7 @@ pub struct DeskState<J: Room> {
     of: PhantomData<J>,
 }
 
-impl<J: Room> Model for DeskState<J> {
+impl<J: Workplace> Model for DeskState<J> {
     ghost use Rattle.std.specs.Prelude.{◌≡◌, ◌≤◌, false};
     ghost use Rattle.std.specs.Coded.{codes};
     ghost use Rattle.sheet_ops.specs.contracts.operation.Entry as entry;
@@ -71,7 +71,7 @@ pub struct Finished {
     pub spent: bool,
 }
 
-impl<J: Room> DeskState<J> {
+impl<J: Workplace> DeskState<J> {
     /// A desk that has taken nothing yet. The pass is the book's first one and has seen nothing, and
     /// there is a publisher for each site, in their order, of a store of the opening size that has
     /// published nothing. Where it is refused, the publishers are ended. It takes time with the lines.
@@ -217,7 +217,7 @@ impl<J: Room> DeskState<J> {
 
 /// Evaluates what was found new, meets the gate and publishes it to each store. With nothing new it
 /// does nothing.
-fn publish_new<J: Room, R: Wait, G: Gate>(
+fn publish_new<J: Workplace, R: Wait, G: Gate>(
     rt: &R,
     alloc: Global,
     gate: &G,
@@ -227,16 +227,16 @@ fn publish_new<J: Room, R: Wait, G: Gate>(
     publishers: &mut [Publisher],
 ) -> Result<(), Memory>
     requires desk { IsDesk J.book J.size J.sites J.stores pass.now publishers.old true }
-    requires before { (h : List Entry) × IsPrefixOf h (items pass.now.seen) × IsCurrent J.size h evaluation.old publishers.old × All (λ q. StandsFor J.size q.list h) publishers.old }
+    requires before { (h : List Entry) × IsPrefixOf h (items_in pass.now.seen) × IsCurrent J.size h evaluation.old publishers.old × All (λ q. StandsFor J.size q.list h) publishers.old }
     requires unspent { All (λ q. q.spent ≡ false) publishers.old }
-    requires effects { IfOk effects (λ es. AreNext J.size J.sites (items pass.now.seen) evaluation.old es) }
+    requires effects { IfOk effects (λ es. AreNext J.size J.sites (items_in pass.now.seen) evaluation.old es) }
     ensures ok { OnOk result (IsDesk J.book J.size J.sites J.stores pass.now publishers.new false) }
-    ensures current { OnOk result (IsCurrent J.size (items pass.now.seen) evaluation.new publishers.new) }
+    ensures current { OnOk result (IsCurrent J.size (items_in pass.now.seen) evaluation.new publishers.new) }
     ensures err { OnErr result (IsDesk J.book J.size J.sites J.stores pass.now publishers.new true) }
-    ensures nothing_new { OnOk result (evaluation.old.length ≡ length (items pass.now.seen) → publishers.new ≡ publishers.old) }
-    ensures one_batch { (h : List Entry) → IsPrefixOf h (items pass.now.seen) → IsEvaluated J.size h evaluation.old
-        → OnOk result (items pass.now.seen ≢ h → publishers.new ≡ map (published (batch_of J.size h (items pass.now.seen))) publishers.old) }
-    ensures kept { (h : List Entry) → IsEvaluated J.size h evaluation.old → AllZip (MayHavePublished (batch_of J.size h (items pass.now.seen))) publishers.old publishers.new }
+    ensures nothing_new { OnOk result (evaluation.old.length ≡ length (items_in pass.now.seen) → publishers.new ≡ publishers.old) }
+    ensures one_batch { (h : List Entry) → IsPrefixOf h (items_in pass.now.seen) → IsEvaluated J.size h evaluation.old
+        → OnOk result (items_in pass.now.seen ≢ h → publishers.new ≡ map (published (batch_of J.size h (items_in pass.now.seen))) publishers.old) }
+    ensures kept { (h : List Entry) → IsEvaluated J.size h evaluation.old → AllZip (MayHavePublished (batch_of J.size h (items_in pass.now.seen))) publishers.old publishers.new }
 {
     let effects = effects?;
     if effects.is_empty() {

@@ -49,6 +49,17 @@ module _ {I : Type 0} where
   abbrev pub new_passes : BookOf → List (PassOf I)
   new_passes book = map (new_pass book) (range_with_len 0 book.passes)
 
+  -- what is written down by a list of entries, in order
+  abbrev pub items_in : List (Made I) → List I
+  items_in ms = map (λ (m : Made I). m.item) ms
+
+  -- what the history says that a pass has seen, and what the pass made
+  abbrev pub seen_by : PassOf I → List I
+  seen_by p = items_in p.seen
+
+  abbrev pub made_in : PassOf I → List I
+  made_in p = items_in p.made
+
   -- the same pass, which may have seen and made more
   pub record IsSamePass (old new : PassOf I) : Type 0 where
     pub book : new.book ≡ old.book

@@ -1,6 +1,6 @@
 use Rattle.std.proofs.Common.{◌≡◌, [], ◌∙◌, arith, ap, sym, refl, subst, Ok, Err}
 use Rattle.ss_base.specs.Lines.{FeedState}
-use Rattle.live_script.specs.SoFar.{SoFar, Holds}
+use Rattle.live_script.specs.SoFar.{SoFar, IsSoFar}
 use Rattle.live_script.proofs.Holding.{holds_first, opened}
 use Rattle.live_script.proofs.Reached.{of_line, reads_first, reads_on, stop_at_end, stop_at_long, stop_at_error, script_here}
 use Rattle.live_script.proofs.read.read_each.Goals as goal
@@ -25,7 +25,7 @@ pub returns-in-Ok-Ended-clause-opened : goal.returns-in-Ok-Ended-clause-opened
 returns-in-Ok-Ended-clause-opened g c =
     let (turn, same, sheet) = of_line c.loop-feed.collected c.take_line.new.collected c.loop-feed.number c.line.result.now c.line.result.now _ _ refl (ap Ok c.in-Ok-Ended.field-0-is) c.in-Ok-Ended.ensures in
     let (cs, h) = c.loop-feed.invariant.made in
-    opened cs c.take_line.new.collected (subst (Holds cs) (sym same) h) (ap (λ (t : SoFar). t.declared.sheet) same ∙ sheet)
+    opened cs c.take_line.new.collected (subst (IsSoFar cs) (sym same) h) (ap (λ (t : SoFar). t.declared.sheet) same ∙ sheet)
 
 pub loop-feed-preserved : goal.loop-feed-preserved
 loop-feed-preserved g c =
@@ -45,6 +45,6 @@ loop-feed-init g c =
       within = omega (arith, used);
       room = omega (arith, used);
       state = λ bytes told. reads_first bytes c.in-Ok.feed empty _ told c.args.collected.now c.requires;
-      made = ([], subst (Holds []) (sym c.requires) holds_first);
+      made = ([], subst (IsSoFar []) (sym c.requires) holds_first);
       read = omega (arith, used);
     }

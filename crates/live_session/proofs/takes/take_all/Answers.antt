@@ -1,7 +1,7 @@
 use Rattle.std.proofs.Common.{◌≡◌, sym, subst, arith}
 use Rattle.sheet_ops.specs.Represents.{ClientState, ClientRepresents}
 use Rattle.jup_client.specs.declared.client.TakeErr.TheVariants as fault
-use Rattle.live_session.specs.Pulling.{Took}
+use Rattle.live_session.specs.Pulling.{HasTakenMore}
 use Rattle.live_session.proofs.Deliveries.{took_none, took_more, taken_small, take_next}
 use Rattle.live_session.proofs.takes.take_all.Goals as goal
 
@@ -30,7 +30,7 @@ untaken-requires c =
     c.in-Err.ensures.represents
 
 pub returns-in-Err-clause-err : goal.returns-in-Err-clause-err
-returns-in-Err-clause-err c = (c.loop-down.down-index, omega (arith, c.loop-down-test.true), subst (λ (x : ClientState). Took c.loop-down.down-index c.args.client.now x) (sym c.in-Err.ensures.err) c.loop-down.invariant.took)
+returns-in-Err-clause-err c = (c.loop-down.down-index, omega (arith, c.loop-down-test.true), subst (λ (x : ClientState). HasTakenMore c.loop-down.down-index c.args.client.now x) (sym c.in-Err.ensures.err) c.loop-down.invariant.took)
 
 pub returns-in-Err-clause-represents : goal.returns-in-Err-clause-represents
 returns-in-Err-clause-represents c H G next = subst (λ (x : ClientState). ClientRepresents x H G) (sym c.in-Err.ensures.err) (c.loop-down.invariant.represents H G next)

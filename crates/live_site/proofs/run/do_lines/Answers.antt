@@ -28,7 +28,7 @@ pub do_line-requires-clause-store : goal.do_line-requires-clause-store
 do_line-requires-clause-store g c κs alive =
     let on = c.loop-line.invariant.goes_on in
     let site : c.loop-line.work.session.client.site ≡ c.args.site.0 = on.site ∙ c.requires.number in
-    ap g.J.Room.stores site ∙ sym (on.store ∙ c.requires.store)
+    ap g.J.Workplace.stores site ∙ sym (on.store ∙ c.requires.store)
 
 pub do_line-requires-clause-size : goal.do_line-requires-clause-size
 do_line-requires-clause-size g c κs alive =

@@ -1,5 +1,6 @@
 use Rattle.std.proofs.Common.{◌≡◌, ◌≤◌, ◌++◌, ap, sym, ◌∙◌, arith}
-use Rattle.live_session.specs.Sessions.{SessionOf, made_in}
+use Rattle.live_session.specs.Sessions.{SessionOf}
+use Rattle.turn_book.specs.Passes.{made_in}
 use Rattle.live_site.proofs.Going.{goes_further, push_goes, end_goes, all_left, left_by_end}
 use Rattle.live_site.proofs.run.leave.Goals as goal
 

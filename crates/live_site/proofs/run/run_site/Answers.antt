@@ -6,7 +6,7 @@ use Rattle.sheet_ops.specs.declared.operation.Entry.{Entry}
 use Rattle.turn_book.specs.Passes.{PassOf, IsSamePass}
 use Rattle.value_snap.specs.Stores.{ReaderOf}
 use Rattle.live_script.specs.SoFar.{LinesWithin}
-use Rattle.live_site.specs.Lines.{GoesOn, DidAll}
+use Rattle.live_site.specs.Lines.{SessionGoesOn, DidAll}
 use Rattle.live_site.proofs.Going.{goes_further, both_ok, site_run}
 use Rattle.live_site.proofs.run.run_site.Goals as goal
 

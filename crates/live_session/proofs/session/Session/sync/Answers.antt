@@ -3,7 +3,8 @@ use Rattle.std.specs.Prelude.{unwrap_or}
 use Rattle.value_snap.specs.Lists.{upto_from}
 use Rattle.value_snap.specs.Stores.{ReaderOf}
 use Rattle.value_snap.proofs.Fronts.{upto_grows}
-use Rattle.live_session.specs.Sessions.{SessionOf, made_in, entries_by, no_pass}
+use Rattle.live_session.specs.Sessions.{SessionOf, entries_by, no_pass}
+use Rattle.turn_book.specs.Passes.{made_in}
 use Rattle.live_session.proofs.Working.{has_pass, few_own, few_wait, none_left}
 use Rattle.live_session.proofs.session.Session.sync.Goals as goal
 

@@ -1,6 +1,6 @@
 use Rattle.std.proofs.Common.{ℕ, ◌<◌, ◌-◌, length, ap, ◌∙◌, arith}
 use Rattle.std.specs.Prelude.{min, ◌^◌}
-use Rattle.live_session.specs.Sessions.{seen_by}
+use Rattle.turn_book.specs.Passes.{seen_by}
 use Rattle.live_site.proofs.Lining.{pulled_line}
 use Rattle.live_site.proofs.Going.{session_at, pull_goes}
 use Rattle.live_site.proofs.work.Work.pull.Goals as goal

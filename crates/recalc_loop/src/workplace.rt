@@ -2,7 +2,7 @@ use std::marker::Brand;
 
 /// Which book a desk is for, and which stores. Each run of a program picks it. Under the desk's lock
 /// nothing else is known, so that it is a parameter of what is kept there.
-pub trait Room {
+pub trait Workplace {
     ghost use Rattle.std.specs.Prelude.{ℕ};
     ghost use Rattle.ss_base.specs.declared.types.Size.{Size};
     ghost use Rattle.turn_book.specs.Passes.{BookId};
@@ -21,8 +21,8 @@ pub trait Room {
     ghost stores: { ℕ → Store };
 }
 
-/// What stands for a room where a call picks it. None of these values is ever used.
-impl Room for Brand {
+/// What stands for a workplace where a call picks it. None of these values is ever used.
+impl Workplace for Brand {
     ghost use Rattle.std.specs.Prelude.{[]};
 
     ghost book = { record { words = 0; slots = 0; views_name = 0; atom = 0; block = 0; offset = 0; slot_names = [] } };
