@@ -11,6 +11,10 @@ module _ {T E : Type 0} where
   on_err (Ok y) f a = tt
   on_err (Err e) f a = f a
 
+  pub whenever_err : {A : Type 0} (x : Result T E) → A → OnErr x A
+  whenever_err (Ok y) a = tt
+  whenever_err (Err e) a = a
+
   -- a value that is one after an Ok and another after an Err
   pub either_way : {V : Type 0} (P : V → Type 0) (x : Result T E) (v a b : V) → OnOk x (v ≡ a) → OnErr x (v ≡ b) → P a → P b → P v
   either_way P (Ok y) v a b f g p q = subst P (sym f) p

@@ -104,6 +104,13 @@ each_pushed w = at_each (λ v p. pushed v p None) 0 (length w.seats) w
 abbrev pub each_pulled : World → World
 each_pulled w = at_each (λ v p. pulled v p None) 0 (length w.seats) w
 
+-- those that were added before a site are done, that site as far as so many entries, and those behind it not at all
+abbrev pub pushed_up_to : World → ℕ → ℕ → World
+pushed_up_to w place count = pushed (at_each (λ v p. pushed v p None) 0 place w) place (Some count)
+
+abbrev pub pulled_up_to : World → ℕ → ℕ → World
+pulled_up_to w place count = pulled (at_each (λ v p. pulled v p None) 0 place w) place (Some count)
+
 -- the state after a command
 abbrev pub after_command : World → Command → World
 after_command w command.Note = w

@@ -1,11 +1,11 @@
-ghost use Rattle.std.specs.Prelude.{◌≡◌, ◌≢◌, ◌≤◌, ◌<◌, ◌-◌, ◌+◌, [], ◌∷◌, ◌++◌, length, map, Some, None, Ok, Err, IfOk, OnOk, OnErr, IfErr, ℕ, is_some, true, false};
+ghost use Rattle.std.specs.Prelude.{◌≡◌, ◌≢◌, ◌≤◌, ◌<◌, ◌-◌, ◌+◌, ◌⊎◌, [], ◌∷◌, ◌++◌, length, map, Some, None, Ok, Err, IfOk, OnOk, OnErr, IfErr, ℕ, is_some, true, false};
 ghost use Rattle.sheet_ops.specs.declared.operation.Intent.{Intent};
 ghost use Rattle.sheet_ops.specs.History.{sheet_of};
 ghost use Rattle.sheet_ops.specs.Placed.{placed};
 ghost use Rattle.sheet_grid.specs.Values.{placed_in};
 ghost use Rattle.script_read.specs.declared.command.Command.TheVariants as command;
 ghost use Rattle.script_read.specs.Commands.{EditWithin};
-ghost use Rattle.script_run.specs.World.{no_world, new_seat, seat_index, place_in, seat_at, site_view, decided, after_decided, at_most, pushed, pulled, recalculated, synced, reading, each_pushed, each_pulled, after_command};
+ghost use Rattle.script_run.specs.World.{no_world, new_seat, seat_index, place_in, seat_at, site_view, decided, after_decided, at_most, pushed, pulled, recalculated, synced, reading, each_pushed, each_pulled, pushed_up_to, pulled_up_to, after_command};
 ghost use Rattle.sheet_text.specs.Operations.{history_text, wire_text};
 ghost use Rattle.sheet_text.specs.Values.{all_text, range_values_text};
 ghost use Rattle.script_run.specs.Transcript.{effects, site_names, published_values, show_text, server_text, printed};
@@ -229,9 +229,11 @@ impl Run {
         Ok(())
     }
 
-    /// Pushes all, site by site.
+    /// Pushes all, site by site in the order in which they were added. After a refused call the sites
+    /// before one of them have pushed all, and that one what the server took.
     pub fn push_all(&mut self) -> Result<(), Memory>
-        ensures { OnOk result (self.new ≡ each_pushed self.old) }
+        ensures ok { OnOk result (self.new ≡ each_pushed self.old) }
+        ensures err { OnErr result ((place count : ℕ) × (place < length self.old.seats) × (self.new ≡ pushed_up_to self.old place count)) }
     {
         for place in 0..self.sites() {
             self.push(place, None)?;
@@ -239,9 +241,11 @@ impl Run {
         Ok(())
     }
 
-    /// Pulls all, site by site.
+    /// Pulls all, site by site in the order in which they were added. After a refused call the sites
+    /// before one of them have taken all, and that one what its client took.
     pub fn pull_all(&mut self) -> Result<(), Memory>
-        ensures { OnOk result (self.new ≡ each_pulled self.old) }
+        ensures ok { OnOk result (self.new ≡ each_pulled self.old) }
+        ensures err { OnErr result ((place count : ℕ) × (place < length self.old.seats) × (self.new ≡ pulled_up_to self.old place count)) }
     {
         for place in 0..self.sites() {
             self.pull(place, None)?;
@@ -279,10 +283,12 @@ impl Run {
         Ok(())
     }
 
-    /// Pushes all own entries of a site, and then publishes the rest of the history.
+    /// Pushes all own entries of a site, and then publishes the rest of the history. After a refused call
+    /// what the server took is pushed, and where that was all, so many entries are published.
     pub fn sync(&mut self, place: usize) -> Result<(), Memory>
         requires { place < length self.old.seats }
-        ensures { OnOk result (self.new ≡ synced self.old place) }
+        ensures ok { OnOk result (self.new ≡ synced self.old place) }
+        ensures err { OnErr result ((k : ℕ) × ((self.new ≡ pushed self.old place (Some k)) ⊎ (self.new ≡ recalculated (pushed self.old place None) (Some k)))) }
     {
         self.push(place, None)?;
         self.recalc(None)
