@@ -9,7 +9,7 @@ use Rattle.sheet_value.specs.declared.value.Value.{Value}
 use Rattle.sheet_value.specs.Tables.{Table, value_at}
 use Rattle.sheet_ops.specs.declared.edit.EditErr.TheVariants as fault
 use Rattle.sheet_text.specs.Texts.{cell_line, refusal_text}
-use Rattle.sheet_text.specs.Values.{value_text, lines_in_row, values_text, values_head_text, lines_between, read_head_text, all_text, range_values_text, values_from, IsPartOf}
+use Rattle.sheet_text.specs.Values.{value_text, lines_in_row, values_text, values_head_text, indexes_between, read_head_text, all_text, range_values_text, values_from, IsPartOf}
 
 -- texts that are the same for each number from a first one on
 flat_alike : (f g : ℕ → List ℕ) (first count : ℕ) → ((n : ℕ) → first ≤ n → n < first + count → f n ≡ g n) → flat_map f (range_with_len first count) ≡ flat_map g (range_with_len first count)
@@ -45,14 +45,14 @@ all_same T length size head first same =
 
 -- the text of a range that is in the visible sheet
 range_within : (number : ℕ) (name : List ℕ) (range : Span) (length : ℕ) (T : Table) → range.bottom < T.size.rows → range.right < T.size.cols →
-    values_text (read_head_text name length range) (value_at T) (lines_between range.top range.bottom) (lines_between range.left range.right) ≡ range_values_text number name range length T
+    values_text (read_head_text name length range) (value_at T) (indexes_between range.top range.bottom) (indexes_between range.left range.right) ≡ range_values_text number name range length T
 range_within number name range length T rows cols =
     let low : nat_lt range.bottom T.size.rows ≡ true = grind (arith, nat_tests) in
     let near : nat_lt range.right T.size.cols ≡ true = grind (arith, nat_tests) in
     by_tests text (refusal_text number fault.OutOfSheet) (nat_lt range.bottom T.size.rows) (nat_lt range.right T.size.cols) low near
   where
     text : List ℕ
-    text = values_text (read_head_text name length range) (value_at T) (lines_between range.top range.bottom) (lines_between range.left range.right)
+    text = values_text (read_head_text name length range) (value_at T) (indexes_between range.top range.bottom) (indexes_between range.left range.right)
 
     by_tests : (x y : List ℕ) (a b : Bool) → a ≡ true → b ≡ true → x ≡ (if a && b then x else y)
     by_tests x y true true p q = refl
@@ -61,14 +61,14 @@ range_within number name range length T rows cols =
 
 -- the text of a range, by all values
 pub range_same : (number : ℕ) (name : List ℕ) (range : Span) (length : ℕ) (T : Table) → range.bottom < T.size.rows → range.right < T.size.cols →
-    values_text (read_head_text name length range) (values_from 0 0 T) (lines_between range.top range.bottom) (lines_between range.left range.right) ≡ range_values_text number name range length T
+    values_text (read_head_text name length range) (values_from 0 0 T) (indexes_between range.top range.bottom) (indexes_between range.left range.right) ≡ range_values_text number name range length T
 range_same number name range length T rows cols =
-    ap (λ (V : ℕ → ℕ → Value). values_text (read_head_text name length range) V (lines_between range.top range.bottom) (lines_between range.left range.right)) (from_first T)
+    ap (λ (V : ℕ → ℕ → Value). values_text (read_head_text name length range) V (indexes_between range.top range.bottom) (indexes_between range.left range.right)) (from_first T)
     ∙ range_within number name range length T rows cols
 
 -- the values of a part by their addresses are those of the whole
 pub part_same : (T : Table) (range : Span) (part : Table) → IsPartOf T range part → (name : List ℕ) (number length : ℕ) →
-    values_text (read_head_text name length range) (values_from range.top range.left part) (lines_between range.top range.bottom) (lines_between range.left range.right) ≡ range_values_text number name range length T
+    values_text (read_head_text name length range) (values_from range.top range.left part) (indexes_between range.top range.bottom) (indexes_between range.left range.right) ≡ range_values_text number name range length T
 part_same T range part is name number length =
     values_alike (read_head_text name length range) (values_from range.top range.left part) (value_at T) range.top (range.bottom + 1 - range.top) range.left (range.right + 1 - range.left) same
     ∙ range_within number name range length T is.last_row is.last_col

@@ -48,9 +48,9 @@ abbrev pub read_head_text : List ℕ → ℕ → Span → List ℕ
 read_head_text name length range = codes "read " ++ (name ++ (codes " at " ++ (decimal length ++ 32 ∷ range_text range)))
 
 -- ---- what is printed of values that were evaluated at a length of the history
--- the lines from a first to a last one, both counted
-abbrev pub lines_between : ℕ → ℕ → List ℕ
-lines_between first last = range_with_len first (last + 1 - first)
+-- the indexes from a first line to a last one, both counted
+abbrev pub indexes_between : ℕ → ℕ → List ℕ
+indexes_between first last = range_with_len first (last + 1 - first)
 
 -- all values
 abbrev pub all_text : ℕ → Table → List ℕ
@@ -60,7 +60,7 @@ all_text length T = values_text (values_head_text length T.size) (value_at T) (r
 abbrev pub range_values_text : ℕ → List ℕ → Span → ℕ → Table → List ℕ
 range_values_text line name range length T =
     if nat_lt range.bottom T.size.rows && nat_lt range.right T.size.cols
-    then values_text (read_head_text name length range) (value_at T) (lines_between range.top range.bottom) (lines_between range.left range.right)
+    then values_text (read_head_text name length range) (value_at T) (indexes_between range.top range.bottom) (indexes_between range.left range.right)
     else refusal_text line fault.OutOfSheet
 
 -- the values by their addresses, where the first one has this address

@@ -1,6 +1,6 @@
 ghost use Rattle.std.specs.Prelude.{◌≡◌, ◌≤◌, ◌<◌, ℕ, IfOk};
 ghost use Rattle.sheet_value.specs.Tables.{Table};
-ghost use Rattle.sheet_text.specs.Values.{all_text, lines_between, range_values_text, read_head_text, values_from, values_text, IsPartOf};
+ghost use Rattle.sheet_text.specs.Values.{all_text, indexes_between, range_values_text, read_head_text, values_from, values_text, IsPartOf};
 
 use crate::refusal;
 use crate::values::{Values, read_head, value_lines, values_head};
@@ -110,7 +110,7 @@ fn values_between(
     requires last_col { range.now.right < 18278 }
     requires rows { range.now.top ≤ range.now.bottom }
     requires cols { range.now.left ≤ range.now.right }
-    ensures { IfOk result (λ t. t ≡ values_text (read_head_text name.now length range.now) (values_from values.now.top values.now.left values.now.grid.now) (lines_between range.now.top range.now.bottom) (lines_between range.now.left range.now.right)) }
+    ensures { IfOk result (λ t. t ≡ values_text (read_head_text name.now length range.now) (values_from values.now.top values.now.left values.now.grid.now) (indexes_between range.now.top range.now.bottom) (indexes_between range.now.left range.now.right)) }
 {
     let head = read_head(alloc, name, length, range)?;
     value_lines(
