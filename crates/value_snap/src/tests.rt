@@ -80,45 +80,88 @@ fn sorted(alloc: Global, upto: u32) -> Result<Batch, Memory>
     })
 }
 
+// The length of a read, and the number in one of its cells.
+fn shown(view: &View, row: u32, col: u32) -> (u32, Option<i64>) {
+    (view.length, number(view, row, col))
+}
+
+// Reads the opening sheet, and then a first batch.
+fn reads_a_batch<R: Wait>(
+    rt: &R,
+    alloc: Global,
+    publisher: &mut Publisher,
+    reader: &mut Reader,
+) -> Result<[(u32, Option<i64>); 2], Fail>
+    requires new { (publisher.old.list ≡ []) × (publisher.old.spent ≡ false) }
+    requires store { reader.old.store ≡ publisher.old.store }
+    ensures store { OnOk result (reader.new.store ≡ publisher.new.store) }
+    ensures unspent { OnOk result (publisher.new.spent ≡ false) }
+    ensures unclosed { OnOk result (is_ended publisher.new.list ≡ false) }
+    ensures upto { OnOk result (upto_from 0 publisher.new.list ≡ 3) }
+{
+    let opening = reader.read(&corner(1, 1))?;
+    let batch = all_cells(alloc, 3)?;
+    publisher.publish(rt, &batch)?;
+    let first = reader.read(&corner(1, 1))?;
+    Ok([shown(&opening, 1, 1), shown(&first, 1, 0)])
+}
+
+// Reads a sorted batch that it learnt of, a range outside, and the closed list.
+fn reads_to_the_end<R: Wait>(
+    rt: &R,
+    alloc: Global,
+    publisher: &mut Publisher,
+    reader: &mut Reader,
+) -> Result<([(u32, Option<i64>); 3], u32, bool), Fail>
+    requires store { reader.old.store ≡ publisher.old.store }
+    requires unspent { publisher.old.spent ≡ false }
+    requires unclosed { is_ended publisher.old.list ≡ false }
+    requires upto { upto_from 0 publisher.old.list ≡ 3 }
+{
+    let batch = sorted(alloc, 5)?;
+    publisher.publish(rt, &batch)?;
+    let told = publisher.tell();
+    let told_length = told.length();
+    reader.learn(told);
+    let second = reader.read(&corner(1, 0))?;
+    let outside = matches!(reader.read(&corner(1, 1)), Err(ReadErr::OutOfSheet));
+    reader.learn(publisher.close(rt)?);
+    reader.agree()?;
+    let last = reader.read(&corner(0, 0))?;
+    let seen = [
+        shown(&second, 0, 0),
+        shown(&second, 1, 0),
+        shown(&last, 0, 0),
+    ];
+    Ok((seen, told_length, outside))
+}
+
+// What is read at the opening, of each batch, and at the end.
+#[derive(Drop)]
+struct Seen {
+    first: [(u32, Option<i64>); 2],
+    rest: [(u32, Option<i64>); 3],
+    told_length: u32,
+    outside: bool,
+}
+
 fn reads_what_is_published<R: Wait>(
     rt: &R,
     alloc: Global,
     publisher: &mut Publisher,
     reader: &mut Reader,
-) -> Result<Vec<Option<i64>>, Fail>
+) -> Result<Seen, Fail>
     requires new { (publisher.old.list ≡ []) × (publisher.old.spent ≡ false) }
     requires store { reader.old.store ≡ publisher.old.store }
 {
-    let mut seen = Vec::new(alloc);
-    let opening = reader.read(&corner(1, 1))?;
-    seen.push(Some(i64::from(opening.length)))?;
-    seen.push(number(&opening, 1, 1))?;
-
-    let batch = all_cells(alloc, 3)?;
-    publisher.publish(rt, &batch)?;
-    let first = reader.read(&corner(1, 1))?;
-    seen.push(Some(i64::from(first.length)))?;
-    seen.push(number(&first, 1, 0))?;
-
-    let batch = sorted(alloc, 5)?;
-    publisher.publish(rt, &batch)?;
-    let told = publisher.tell();
-    seen.push(Some(i64::from(told.length())))?;
-    reader.learn(told);
-    let second = reader.read(&corner(1, 0))?;
-    seen.push(Some(i64::from(second.length)))?;
-    seen.push(number(&second, 0, 0))?;
-    seen.push(number(&second, 1, 0))?;
-
-    let outside = reader.read(&corner(1, 1));
-    seen.push(Some(i64::from(matches!(outside, Err(ReadErr::OutOfSheet)))))?;
-
-    let told = publisher.close(rt)?;
-    reader.learn(told);
-    reader.agree()?;
-    let last = reader.read(&corner(0, 0))?;
-    seen.push(Some(i64::from(last.length)))?;
-    Ok(seen)
+    let first = reads_a_batch(rt, alloc, publisher, reader)?;
+    let (rest, told_length, outside) = reads_to_the_end(rt, alloc, publisher, reader)?;
+    Ok(Seen {
+        first,
+        rest,
+        told_length,
+        outside,
+    })
 }
 
 #[test]
@@ -127,20 +170,13 @@ fn reads_no_older_than_what_was_told(rt: HostRuntime) -> Result<(), Fail> {
     let seen = reads_what_is_published(&rt, rt.alloc(), &mut publisher, &mut reader);
     let spent = publisher.is_spent();
     publisher.end(&rt);
-    let expected = [
-        Some(0), // the opening sheet, with an empty cell
-        None,
-        Some(3), // the first batch
-        Some(3),
-        Some(5), // the second one, as it was told and as it was read: rows exchanged, one cell empty
-        Some(5),
-        Some(3),
-        None,
-        Some(1), // column 1 is outside
-        Some(5), // closed
-    ];
     let seen = seen?;
-    assert_eq!(rt; seen.as_slice(), expected.as_slice());
+    // The opening sheet, with an empty cell, and the first batch.
+    assert_eq!(rt; seen.first, [(0, None), (3, Some(3))]);
+    // The second one as it was told: rows exchanged, one cell empty. Column 1 is outside then.
+    assert_eq!(rt; seen.rest, [(5, Some(3)), (5, None), (5, Some(3))]);
+    assert_eq!(rt; seen.told_length, 5);
+    assert!(rt; seen.outside);
     assert!(rt; !spent);
     assert_eq!(rt; reader.refused(), 0);
     Ok(())
