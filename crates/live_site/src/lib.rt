@@ -7,3 +7,6 @@ mod run;
 mod work;
 
 pub use run::{SiteEnd, run_site};
+
+#[cfg(test)]
+mod tests;

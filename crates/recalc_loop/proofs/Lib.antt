@@ -3,6 +3,7 @@ pub mod Evaluating
 pub mod Holds
 pub mod Openings
 pub mod Ranges
+pub mod Sends
 pub mod Snapshots
 pub mod Standings
 pub mod Turns

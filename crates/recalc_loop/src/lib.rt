@@ -6,6 +6,7 @@ mod desk;
 mod evaluation;
 mod gate;
 mod hold;
+mod law;
 mod publishing;
 mod state;
 mod workplace;
@@ -13,6 +14,10 @@ mod workplace;
 pub use changes::{batch_between, changes_between};
 pub use desk::{Desk, Nap, Post};
 pub use gate::{Gate, NoGate, Point};
+pub use law::desk_goes_to_threads;
 pub use publishing::end_all;
 pub use state::{DeskState, Finished};
 pub use workplace::Workplace;
+
+#[cfg(test)]
+mod tests;
