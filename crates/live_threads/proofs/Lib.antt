@@ -1,0 +1,4 @@
+pub mod Lists
+pub mod Openings
+pub mod Sends
+pub mod Starts
