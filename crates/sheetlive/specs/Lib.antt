@@ -1,0 +1,2 @@
+pub mod LivePlayed
+pub mod Reads
