@@ -33,7 +33,7 @@ use Rattle.live_record.proofs.Sites.{sites_hold}
 use Rattle.live_site.specs.declared.run.SiteEnd.{SiteEnd}
 use Rattle.live_site.specs.SiteRuns.{IsSiteRun, holds_noted, beside_seen}
 use Rattle.recalc_loop.specs.Standing.{EachStands}
-use Rattle.live_threads.specs.Threads.{site_count}
+use Rattle.live_threads.specs.Threads.{hub_site_count}
 use Rattle.live_close.specs.declared.agreeing.Parts.{Parts}
 use Rattle.live_close.specs.Recorded.{IsOfValues, IsRecordOf}
 use Rattle.live_close.specs.Parts.{parts_of, all_passes, IsDone, AreDone}
@@ -158,14 +158,14 @@ module _ (s : LiveScript) (book : BookOf) (desk : PassOf Entry) (ends : List Sit
     abbrev H : List Entry
     H = c.state.entries
 
-    opens : opening_of c.state.size c.state.sites ≡ opening_of s.size (site_count s)
+    opens : opening_of c.state.size c.state.sites ≡ opening_of s.size (hub_site_count s)
     opens = ended.opening ∙ done.opening
 
     pub sized : c.state.size ≡ s.size
-    sized = same_size c.state.size s.size c.state.sites (site_count s) opens
+    sized = same_size c.state.size s.size c.state.sites (hub_site_count s) opens
 
-    counted : c.state.sites ≡ site_count s
-    counted = same_sites c.state.size s.size c.state.sites (site_count s) opens
+    counted : c.state.sites ≡ hub_site_count s
+    counted = same_sites c.state.size s.size c.state.sites (hub_site_count s) opens
 
     -- what a pass of the book found
     finds : (n k : ℕ) (p : PassOf Entry) → slice_get passes n ≡ Some p → IsSamePass (new_pass book k) p → Finds p c.state
@@ -219,19 +219,19 @@ module _ (s : LiveScript) (book : BookOf) (desk : PassOf Entry) (ends : List Sit
         subst (λ (G : List Entry). ClientRepresents e.ended.client H G) (append-nil (own_entries e.ended.client.site H) ∙ ap (λ (n : ℕ). own_entries n H) number) stands.represents in
         subst (MayTakeRest c.state (suc k)) is (record { few = (let n = counted in omega (arith, n, few)); valid = valid; number = number; to = subst (λ (n : ℕ). n ≤ c.state.sites) number stands.to; sized = stands.size; within = represents.within; represents = represents })
 
-    whole : IsValidHistory s.size (site_count s) H
+    whole : IsValidHistory s.size (hub_site_count s) H
     whole = subst (λ (n : ℕ). IsValidHistory s.size n H) counted (subst (λ (z : Size). IsValidHistory z c.state.sites H) sized valid)
 
     pub entries_short : IsOpened s → All (λ (e : Entry). IntentWithin 16000 e.intent) H
-    entries_short opened = entries_within s.size (site_count s) opened.rows.1 opened.cols.1 (omega (arith, few)) H whole
+    entries_short opened = entries_within s.size (hub_site_count s) opened.rows.1 opened.cols.1 (omega (arith, few)) H whole
 
     valid_sites : IsValidHistory s.size (length s.sites) H
     valid_sites = by_idle (idle_case idle done.taken done.left s.sites refl)
       where
         by_idle : ((idle ≡ None) × (0 < length s.sites)) ⊎ ((idle ≡ Some (new_pass book 1)) × (length s.sites ≡ 0)) → IsValidHistory s.size (length s.sites) H
-        by_idle (inl (none, some)) = subst (λ (n : ℕ). IsValidHistory s.size n H) (let z : site_count s ≡ length s.sites = omega (arith, some) in z) whole
+        by_idle (inl (none, some)) = subst (λ (n : ℕ). IsValidHistory s.size n H) (let z : hub_site_count s ≡ length s.sites = omega (arith, some) in z) whole
         by_idle (inr (only, none)) =
-            let one : site_count s ≡ 1 = omega (arith, none) in
+            let one : hub_site_count s ≡ 1 = omega (arith, none) in
             let at = idle_there (new_pass book 1) only in
             let f = finds (suc (length ends)) 1 (new_pass book 1) at (record { book = refl; number = refl; opening = refl }) in
             let empty : H ≡ [] = no_history s.size H (subst (λ (n : ℕ). IsValidHistory s.size n H) one whole) (own_found (new_pass book 1) c.state f) in
@@ -249,10 +249,10 @@ module _ (s : LiveScript) (book : BookOf) (desk : PassOf Entry) (ends : List Sit
         nothing_seen none within = omega (arith, none, within, some)
 
     -- the passes are those of the recalculation and of each site
-    passes_held : map (λ (h : ℕ × ℕ). h.0) c.holds ≡ range_with_len 0 (site_count s + 1)
+    passes_held : map (λ (h : ℕ × ℕ). h.0) c.holds ≡ range_with_len 0 (hub_site_count s + 1)
     passes_held =
         ap (λ (hs : List (ℕ × ℕ)). map (λ (h : ℕ × ℕ). h.0) hs) ended.holds
-        ∙ (map_twice (λ (p : PassOf Entry). (p.number, p.holds)) (λ (h : ℕ × ℕ). h.0) passes ∙ (numbers ∙ ap (range_with_len 0) (let b = done.passes in let more : book.passes ≡ site_count s + 1 = omega (arith, b) in more)))
+        ∙ (map_twice (λ (p : PassOf Entry). (p.number, p.holds)) (λ (h : ℕ × ℕ). h.0) passes ∙ (numbers ∙ ap (range_with_len 0) (let b = done.passes in let more : book.passes ≡ hub_site_count s + 1 = omega (arith, b) in more)))
 
     pub all_have_all : (server : ServerState) → server.size ≡ c.state.size → ServerRepresents server H → (clients : List ClientState) → HaveTakenRest c.state (map (λ (e : SiteEnd). e.ended.client) ends) clients → AllHaveAll s.size H server clients
     all_have_all server server_sized represents clients taken = record {

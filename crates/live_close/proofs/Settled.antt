@@ -17,7 +17,7 @@ use Rattle.recalc_loop.specs.Standing.{EachStands}
 use Rattle.live_threads.specs.declared.threads.Ran.{Ran}
 use Rattle.live_threads.specs.Threads.{IsEnd, IsRan}
 use Rattle.live_close.specs.declared.agreeing.Parts.{Parts}
-use Rattle.live_close.specs.Parts.{closed, parts_of, part_more, AllOver, AllKnow, IsDone, AreDone}
+use Rattle.live_close.specs.Parts.{with_mark, parts_of, part_more, AllOver, AllKnow, IsDone, AreDone}
 use Rattle.live_close.proofs.Lists.{all_there, all_from, each_more, some_same, got, got_map, there_get, map_there, within_there}
 use Rattle.live_close.proofs.Records.{site_done}
 
@@ -28,14 +28,14 @@ ended_marked (Full b ∷ es) = ended_marked es
 ended_marked (End ∷ []) = refl
 ended_marked (End ∷ (e ∷ es)) = ended_marked (e ∷ es)
 
-pub all_closed : (qs : List PublisherOf) → All (λ (q : PublisherOf). is_ended q.list ≡ true) (map closed qs)
-all_closed qs = all_from (λ (q : PublisherOf). is_ended q.list ≡ true) (map closed qs)
-    (λ k q there. let (p, at, is) = got_map closed qs k q there in subst (λ (x : PublisherOf). is_ended x.list ≡ true) is (ended_marked p.list))
+pub all_closed : (qs : List PublisherOf) → All (λ (q : PublisherOf). is_ended q.list ≡ true) (map with_mark qs)
+all_closed qs = all_from (λ (q : PublisherOf). is_ended q.list ≡ true) (map with_mark qs)
+    (λ k q there. let (p, at, is) = got_map with_mark qs k q there in subst (λ (x : PublisherOf). is_ended x.list ≡ true) is (ended_marked p.list))
 
-pub over_closed : (ends : List SiteEnd) (qs : List PublisherOf) → AllOver ends qs → AllOver ends (map closed qs)
+pub over_closed : (ends : List SiteEnd) (qs : List PublisherOf) → AllOver ends qs → AllOver ends (map with_mark qs)
 over_closed ends qs over = record {
-  enough = let n = length-map qs closed in let m = over.enough in omega (arith, n, m);
-  each = λ k e q at there. let (p, here, is) = got_map closed qs k q there in over.each k e p at here ∙ ap (λ (x : PublisherOf). x.store) is;
+  enough = let n = length-map qs with_mark in let m = over.enough in omega (arith, n, m);
+  each = λ k e q at there. let (p, here, is) = got_map with_mark qs k q there in over.each k e p at here ∙ ap (λ (x : PublisherOf). x.store) is;
 }
 
 -- ---- taking apart what the sites left
@@ -84,7 +84,7 @@ module _ (s : LiveScript) (stores : ℕ → Store) (r : Ran) (ran : IsRan s stor
   publisher_at : (k : ℕ) (e : SiteEnd) → slice_get r.ends k ≡ Some e → (q : PublisherOf) × (slice_get r.desk.publishers k ≡ Some q)
   publisher_at k e at = got r.desk.publishers k (let h = within_there r.ends k e at in let m = ran.as_many in let n = ran.desk.count in omega (arith, h, m, n))
 
-  pub are_done : All (λ (e : SiteEnd). e.done ≡ true) r.ends → AllKnow r.ends (map closed r.desk.publishers) → AreDone s r.book r.desk.pass r.ends r.idle
+  pub are_done : All (λ (e : SiteEnd). e.done ≡ true) r.ends → AllKnow r.ends (map with_mark r.desk.publishers) → AreDone s r.book r.desk.pass r.ends r.idle
   are_done done known = record {
     opening = ran.opening;
     passes = let b = ran.passes in omega (arith, b);
@@ -101,4 +101,4 @@ module _ (s : LiveScript) (stores : ℕ → Store) (r : Ran) (ran : IsRan s stor
           let (q, here) = publisher_at k e at in
           let run = (end_at k t e there at).run (all_there (λ (x : SiteEnd). x.done ≡ true) r.ends done k e at) in
           let stands = all_there (λ (p : PublisherOf). EachStands s.size p.list (seen_by r.desk.pass)) r.desk.publishers ran.desk.each k q here in
-          site_done s.size (suc k) t e q (seen_by r.desk.pass) run stands (known k e (closed q) at (map_there closed r.desk.publishers k q here))
+          site_done s.size (suc k) t e q (seen_by r.desk.pass) run stands (known k e (with_mark q) at (map_there with_mark r.desk.publishers k q here))

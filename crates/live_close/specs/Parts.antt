@@ -15,11 +15,11 @@ use Rattle.live_record.specs.Records.{ShowsPrefix}
 use Rattle.live_site.specs.declared.run.SiteEnd.{SiteEnd}
 use Rattle.live_site.specs.SiteRuns.{holds_noted}
 use Rattle.live_close.specs.declared.agreeing.Parts.{Parts}
-use Rattle.live_threads.specs.Threads.{site_count}
+use Rattle.live_threads.specs.Threads.{hub_site_count}
 
 -- the mark is behind all that was published
-abbrev pub closed : PublisherOf → PublisherOf
-closed q = record q { list = q.list ++ End ∷ [] }
+abbrev pub with_mark : PublisherOf → PublisherOf
+with_mark q = record q { list = q.list ++ End ∷ [] }
 
 -- the parts of what the sites left, behind the pass of the recalculation
 abbrev pub parts_of : PassOf Entry → List SiteEnd → Parts
@@ -55,8 +55,8 @@ pub record IsDone (size : Size) (evaluated : List Entry) (site : ℕ) (t : SiteS
 
 -- the parts are those of sites that are done, beside the passes of this book
 pub record AreDone (s : LiveScript) (book : BookOf) (desk : PassOf Entry) (ends : List SiteEnd) (idle : Option (PassOf Entry)) : Type 0 where
-  pub opening : book.opening ≡ opening_of s.size (site_count s)
-  pub passes : book.passes ≡ suc (site_count s)
+  pub opening : book.opening ≡ opening_of s.size (hub_site_count s)
+  pub passes : book.passes ≡ suc (hub_site_count s)
   pub desk_pass : IsSamePass (new_pass book 0) desk
   pub as_many : length ends ≡ length s.sites
   pub own : (k : ℕ) (e : SiteEnd) → slice_get ends k ≡ Some e → IsSamePass (new_pass book (suc k)) e.ended.pass

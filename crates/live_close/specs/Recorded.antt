@@ -7,7 +7,7 @@ use Rattle.live_record.specs.declared.note.Note.{Note}
 use Rattle.live_record.specs.declared.note.NoteKind.TheVariants as kind
 use Rattle.live_record.specs.Records.{IsRecord, HasTakenAll}
 use Rattle.live_site.specs.SiteRuns.{holds_noted}
-use Rattle.live_threads.specs.Threads.{site_count}
+use Rattle.live_threads.specs.Threads.{hub_site_count}
 use Rattle.live_close.specs.declared.record.LiveRecord.{LiveRecord}
 
 -- values after at least one entry were read, or waited for
@@ -22,6 +22,6 @@ pub record IsRecordOf (s : LiveScript) (r : LiveRecord) (logs : List (List ℕ))
   pub record_is : IsRecord s r.hub.state.entries r.notes logs
   pub as_many : length r.clients ≡ length s.sites
   pub clients : (k : ℕ) (c : ClientState) → slice_get r.clients k ≡ Some c → HasTakenAll s.size r.hub.state.entries (suc k) c
-  pub passes : map (λ (h : ℕ × ℕ). h.0) r.hub.holds ≡ range_with_len 0 (site_count s + 1)
+  pub passes : map (λ (h : ℕ × ℕ). h.0) r.hub.holds ≡ range_with_len 0 (hub_site_count s + 1)
   pub held : (k : ℕ) (ns : List Note) → slice_get r.notes k ≡ Some ns → (holds : ℕ) × Contains r.hub.holds (suc k, holds) × (holds_noted ns ≤ holds)
   pub recalculated : (k : ℕ) (ns : List Note) (n : Note) → slice_get r.notes k ≡ Some ns → Contains ns n → IsOfValues n → (holds : ℕ) × Contains r.hub.holds (0, holds) × (0 < holds)

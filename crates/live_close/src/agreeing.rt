@@ -1,7 +1,7 @@
 ghost use Rattle.std.specs.Prelude.{◌≡◌, true, false, All, map, IfOk, OnOk};
 ghost use Rattle.ss_base.specs.Lists.{IsPrefixOf};
 ghost use Rattle.value_snap.specs.Lists.{is_ended};
-ghost use Rattle.live_close.specs.Parts.{closed, parts_of, part_more, AllOver, AllKnow};
+ghost use Rattle.live_close.specs.Parts.{with_mark, parts_of, part_more, AllOver, AllKnow};
 
 use hub::Hub;
 use jup_client::Client;
@@ -76,7 +76,7 @@ impl Parts {
 pub fn close_all<R: Wait>(rt: &R, publishers: &mut [Publisher]) -> Result<(), Memory>
     requires unspent { All (λ q. q.spent ≡ false) publishers.old }
     requires unclosed { All (λ q. is_ended q.list ≡ false) publishers.old }
-    ensures { OnOk result (publishers.new ≡ map closed publishers.old) }
+    ensures { OnOk result (publishers.new ≡ map with_mark publishers.old) }
 {
     for i in 0..publishers.len() {
         let _told = publishers[i].close(rt)?;

@@ -11,7 +11,7 @@ ghost use Rattle.live_site.specs.declared.run.SiteEnd.{SiteEnd};
 ghost use Rattle.live_record.specs.Records.{live_text as text_of};
 ghost use Rattle.live_close.specs.Recorded.{IsRecordOf};
 ghost use Rattle.live_threads.specs.Threads.{IsRan};
-ghost use Rattle.live_close.specs.Parts.{closed, parts_of as made_of, AllOver, AllKnow, AreDone};
+ghost use Rattle.live_close.specs.Parts.{with_mark, parts_of as made_of, AllOver, AllKnow, AreDone};
 ghost use Rattle.live_close.specs.Closing.{MayAllTakeRest, HaveTakenRest, IsClosedBy};
 
 use crate::agreeing::{Parts, close_all, parts_of};
@@ -156,7 +156,7 @@ fn settle<R: Wait>(
     ensures unspent { OnOk result (spent ≡ false) }
     ensures done { OnOk result (All (λ e. e.done ≡ true) ends) }
     ensures parts { IfOk result (λ p. p ≡ made_of pass ends) }
-    ensures known { OnOk result (AllKnow ends (map closed publishers.old)) }
+    ensures known { OnOk result (AllKnow ends (map with_mark publishers.old)) }
 {
     if spent {
         return Err(Memory);

@@ -20,13 +20,13 @@ use Rattle.recalc_loop.specs.declared.state.Finished.{Finished}
 use Rattle.recalc_loop.specs.Desks.{IsDesk}
 use Rattle.live_threads.specs.declared.opening.Opening.{Opening}
 use Rattle.live_threads.specs.declared.threads.Begun.{Begun}
-use Rattle.live_threads.specs.Threads.{site_count, IsFresh, IsNewPublisher, IsOpening, IsEnd, IsRan, LeftBy, no_publisher, stores_of}
-use Rattle.live_threads.specs.Begun.{Keeps, IsAtWork, MayBegin, MayBeginOne, AreAtWork, AreEnds, AllLeft}
+use Rattle.live_threads.specs.Threads.{hub_site_count, IsFresh, IsNewPublisher, IsOpening, IsEnd, IsRan, LeftBy, no_publisher, stores_of}
+use Rattle.live_threads.specs.Begun.{Keeps, IsAtWork, MayAllBegin, MayBeginOne, AreAtWork, AreEnds, AllLeft}
 use Rattle.live_threads.proofs.Lists.{all_there, all_from}
 
 -- ---- before
 -- The threads may begin over what was opened.
-pub may_begin : (s : LiveScript) (o : Opening) (id : BookId) (size : Size) (sites : ℕ) (stores : ℕ → Store) → IsOpened s → IsOpening s o → id ≡ o.book.id → size ≡ s.size → sites ≡ site_count s → stores ≡ stores_of o.publishers → MayBegin id size stores sites s o.book o.sessions
+pub may_begin : (s : LiveScript) (o : Opening) (id : BookId) (size : Size) (sites : ℕ) (stores : ℕ → Store) → IsOpened s → IsOpening s o → id ≡ o.book.id → size ≡ s.size → sites ≡ hub_site_count s → stores ≡ stores_of o.publishers → MayAllBegin id size stores sites s o.book o.sessions
 may_begin s o id size sites stores opened opens id_is size_is sites_is stores_are = record {
   book_is = sym id_is;
   as_many = opens.begun.as_many;
@@ -90,7 +90,7 @@ is_end size book store site session t e fresh left = record {
 
 -- All threads of what was opened have ended.
 pub is_ran : (s : LiveScript) (o : Opening) (id : BookId) (size : Size) (sites : ℕ) (stores : ℕ → Store) (ends : List SiteEnd) (desk : Finished)
-    → IsOpening s o → id ≡ o.book.id → size ≡ s.size → sites ≡ site_count s → stores ≡ stores_of o.publishers
+    → IsOpening s o → id ≡ o.book.id → size ≡ s.size → sites ≡ hub_site_count s → stores ≡ stores_of o.publishers
     → AllLeft s o.sessions ends → IsDesk id size sites stores desk.pass desk.publishers desk.spent
     → IsRan s stores (record { book = o.book; ends = ends; idle = o.idle; desk = desk })
 is_ran s o id size sites stores ends desk opens id_is size_is sites_is stores_are left kept = record {

@@ -37,7 +37,7 @@ pub record MayBeginOne (book_id : BookId) (size : Size) (stores : ℕ → Store)
   pub within : LinesWithin t.lines
 
 -- each site may
-pub record MayBegin (book_id : BookId) (size : Size) (stores : ℕ → Store) (sites : ℕ) (s : LiveScript) (book : BookOf) (sessions : List SessionOf) : Type 0 where
+pub record MayAllBegin (book_id : BookId) (size : Size) (stores : ℕ → Store) (sites : ℕ) (s : LiveScript) (book : BookOf) (sessions : List SessionOf) : Type 0 where
   pub book_is : book.id ≡ book_id
   pub as_many : length sessions ≡ length s.sites
   pub few : length s.sites ≤ 8

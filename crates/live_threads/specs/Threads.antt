@@ -20,8 +20,8 @@ use Rattle.live_threads.specs.declared.opening.Opening.{Opening}
 use Rattle.live_threads.specs.declared.threads.Ran.{Ran}
 
 -- how many sites the hub is for: one where none is declared
-abbrev pub site_count : LiveScript → ℕ
-site_count s = max 1 (length s.sites)
+abbrev pub hub_site_count : LiveScript → ℕ
+hub_site_count s = max 1 (length s.sites)
 
 -- ---- before
 -- a client that has done nothing
@@ -56,13 +56,13 @@ pub record AreBegun (s : LiveScript) (book : BookOf) (sessions : List SessionOf)
   pub fresh : (k : ℕ) (t : SessionOf) → slice_get sessions k ≡ Some t → IsFresh s.size book (suc k) (stores_of qs (suc k)) t
   pub taken : s.sites ≢ [] → idle ≡ None
   pub left : s.sites ≡ [] → idle ≡ Some (new_pass book 1)
-  pub count : length qs ≡ site_count s
+  pub count : length qs ≡ hub_site_count s
   pub publishers : All (IsNewPublisher s.size) qs
 
 -- The book of an empty hub with its passes: the first one for the recalculation, then one for each site.
 pub record IsOpening (s : LiveScript) (o : Opening) : Type 0 where
-  pub opening : o.book.opening ≡ opening_of s.size (site_count s)
-  pub passes : o.book.passes ≡ site_count s + 1
+  pub opening : o.book.opening ≡ opening_of s.size (hub_site_count s)
+  pub passes : o.book.passes ≡ hub_site_count s + 1
   pub desk_pass : o.desk_pass ≡ new_pass o.book 0
   pub begun : AreBegun s o.book o.sessions o.idle o.publishers
 
@@ -82,10 +82,10 @@ pub record IsEnd (size : Size) (book : BookOf) (store : Store) (site : ℕ) (t :
 
 -- All threads have ended: each site's, and that of the recalculation.
 pub record IsRan (s : LiveScript) (stores : ℕ → Store) (r : Ran) : Type 0 where
-  pub opening : r.book.opening ≡ opening_of s.size (site_count s)
-  pub passes : r.book.passes ≡ site_count s + 1
+  pub opening : r.book.opening ≡ opening_of s.size (hub_site_count s)
+  pub passes : r.book.passes ≡ hub_site_count s + 1
   pub as_many : length r.ends ≡ length s.sites
   pub ends : (k : ℕ) (t : SiteScript) (e : SiteEnd) → slice_get s.sites k ≡ Some t → slice_get r.ends k ≡ Some e → IsEnd s.size r.book (stores (suc k)) (suc k) t e
   pub taken : s.sites ≢ [] → r.idle ≡ None
   pub left : s.sites ≡ [] → r.idle ≡ Some (new_pass r.book 1)
-  pub desk : IsDesk r.book.id s.size (site_count s) stores r.desk.pass r.desk.publishers r.desk.spent
+  pub desk : IsDesk r.book.id s.size (hub_site_count s) stores r.desk.pass r.desk.publishers r.desk.spent

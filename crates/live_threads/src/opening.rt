@@ -3,7 +3,7 @@ ghost use Rattle.std.specs.List.{range_with_len};
 ghost use Rattle.turn_book.specs.Passes.{BookOf, new_pass};
 ghost use Rattle.hub.specs.Hubs.{opening_of};
 ghost use Rattle.live_script.specs.SoFar.{IsOpened};
-ghost use Rattle.live_threads.specs.Threads.{site_count};
+ghost use Rattle.live_threads.specs.Threads.{hub_site_count};
 ghost use Rattle.live_threads.specs.Threads.{IsOpening, IsFresh, IsNewPublisher, AreBegun};
 
 use hub::Hub;
@@ -69,9 +69,9 @@ fn begin_sites<R: Wait>(
     publishers: &mut Vec<Publisher>,
 ) -> Result<(Seq<Session>, Option<Pass<Hub>>), Memory>
     requires script { IsOpened script.now }
-    requires room { (publishers.old.items ≡ []) × (site_count script.now ≤ vec_capacity publishers.old) }
-    requires passes { (book : BookOf) × (book.opening ≡ opening_of script.now.size (site_count script.now)) × (passes.items ≡ map (new_pass book) (range_with_len 1 (site_count script.now))) }
-    ensures { (book : BookOf) → book.opening ≡ opening_of script.now.size (site_count script.now) → passes.items ≡ map (new_pass book) (range_with_len 1 (site_count script.now)) →
+    requires room { (publishers.old.items ≡ []) × (hub_site_count script.now ≤ vec_capacity publishers.old) }
+    requires passes { (book : BookOf) × (book.opening ≡ opening_of script.now.size (hub_site_count script.now)) × (passes.items ≡ map (new_pass book) (range_with_len 1 (hub_site_count script.now))) }
+    ensures { (book : BookOf) → book.opening ≡ opening_of script.now.size (hub_site_count script.now) → passes.items ≡ map (new_pass book) (range_with_len 1 (hub_site_count script.now)) →
         IfOk result (λ r. AreBegun script.now book r.0 r.1 publishers.new.items) }
 {
     if script.sites.is_empty() {

@@ -1,9 +1,9 @@
 ghost use Rattle.std.specs.Prelude.{◌≡◌, ◌≤◌, [], All, length, vec_capacity, vec_len, IfOk};
 ghost use Rattle.turn_book.specs.Passes.{BookOf};
 ghost use Rattle.live_script.specs.SoFar.{IsOpened};
-ghost use Rattle.live_threads.specs.Threads.{site_count};
+ghost use Rattle.live_threads.specs.Threads.{hub_site_count};
 ghost use Rattle.live_threads.specs.Threads.{IsOpening, IsRan, LeftBy, stores_of};
-ghost use Rattle.live_threads.specs.Begun.{Keeps, IsAtWork, MayBegin, MayBeginOne, AreAtWork, AreEnds, AllLeft};
+ghost use Rattle.live_threads.specs.Begun.{Keeps, IsAtWork, MayAllBegin, MayBeginOne, AreAtWork, AreEnds, AllLeft};
 
 use crate::opening::Opening;
 use hub::Hub;
@@ -80,7 +80,7 @@ pub fn run_threads<J: Workplace + Send, R: Threads + Wait + Sync, G: Gate + Sync
 ) -> Result<Ran, Memory>
     requires script { IsOpened script.now }
     requires opening { IsOpening script.now opening }
-    requires room { (J.book ≡ opening.book.id) × (J.size ≡ script.now.size) × (J.sites ≡ site_count script.now) × (J.stores ≡ stores_of opening.publishers) }
+    requires room { (J.book ≡ opening.book.id) × (J.size ≡ script.now.size) × (J.sites ≡ hub_site_count script.now) × (J.stores ≡ stores_of opening.publishers) }
     ensures ran { IfOk result (IsRan script.now J.stores) }
     ensures book { IfOk result (λ r. r.book ≡ opening.book) }
 {
@@ -128,7 +128,7 @@ fn run_beside<J: Workplace + Send, R: Threads + Wait + Sync, G: Gate + Sync>(
     begun: Vec<Begun>,
     left: Vec<SiteEnd>,
 ) -> Seq<SiteEnd>
-    requires may { MayBegin J.book J.size J.stores J.sites script.now book.now sessions }
+    requires may { MayAllBegin J.book J.size J.stores J.sites script.now book.now sessions }
     requires begun { (begun.items ≡ []) × (length sessions ≤ vec_capacity begun) }
     requires left { (left.items ≡ []) × (length sessions ≤ vec_capacity left) }
     ensures { AllLeft script.now sessions result }
@@ -140,7 +140,7 @@ fn run_beside<J: Workplace + Send, R: Threads + Wait + Sync, G: Gate + Sync>(
         thread::scope_env(),
         rt,
         |scope| -> Seq<SiteEnd>
-            requires { MayBegin J.book J.size J.stores J.sites script.now book.now sessions × (begun.items ≡ []) × (left.items ≡ []) × (length sessions ≤ vec_capacity begun) × (length sessions ≤ vec_capacity left) }
+            requires { MayAllBegin J.book J.size J.stores J.sites script.now book.now sessions × (begun.items ≡ []) × (left.items ≡ []) × (length sessions ≤ vec_capacity begun) × (length sessions ≤ vec_capacity left) }
             ensures { AllLeft script.entry.now sessions result }
         {
             begin_run(rt, scope, desk, nap, book, gate);
@@ -176,7 +176,7 @@ fn begin_all<'s, E, J: Workplace + Send, R: Threads + Wait + Sync, G: Gate + Syn
     gate: &'s G,
     mut begun: Vec<Begun>,
 ) -> Vec<Begun>
-    requires may { MayBegin J.book J.size J.stores J.sites script.now book.now sessions }
+    requires may { MayAllBegin J.book J.size J.stores J.sites script.now book.now sessions }
     requires room { length sessions ≤ vec_capacity begun }
     requires empty { begun.items ≡ [] }
     ensures { AreAtWork script.now.sites sessions result.items }

@@ -3,7 +3,7 @@ use Rattle.value_snap.specs.Lists.{is_ended}
 use Rattle.value_snap.specs.Stores.{PublisherOf}
 use Rattle.recalc_loop.proofs.Turns.{at_ok, at_ok_on}
 use Rattle.live_close.specs.declared.agreeing.Parts.{Parts}
-use Rattle.live_close.specs.Parts.{closed, parts_of, AllOver, AllKnow}
+use Rattle.live_close.specs.Parts.{with_mark, parts_of, AllOver, AllKnow}
 use Rattle.live_close.proofs.Settled.{all_over, are_done}
 use Rattle.live_close.proofs.closing.close.Goals as goal
 
@@ -27,5 +27,5 @@ record_of-requires-clause-done g c =
       r.ends,
       at_ok (λ (p : Parts). p ≡ parts_of r.desk.pass r.ends) c.settle-parts.result c.in_ok-parts.parts c.in_ok-parts.was c.settle-parts.ensures.parts,
       are_done c.args.script.now stores r ran (at_ok_on c.settle-parts.result c.in_ok-parts.parts c.in_ok-parts.was c.settle-parts.ensures.done)
-          (subst (λ (qs : List PublisherOf). AllKnow r.ends (map closed qs)) same (at_ok_on c.settle-parts.result c.in_ok-parts.parts c.in_ok-parts.was c.settle-parts.ensures.known)),
+          (subst (λ (qs : List PublisherOf). AllKnow r.ends (map with_mark qs)) same (at_ok_on c.settle-parts.result c.in_ok-parts.parts c.in_ok-parts.was c.settle-parts.ensures.known)),
     )

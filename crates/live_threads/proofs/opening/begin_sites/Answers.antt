@@ -5,7 +5,7 @@ use Rattle.std.proofs.lemmas.List.Elements.{All-push, All-same}
 use Rattle.turn_book.specs.Passes.{BookOf, PassOf, new_pass}
 use Rattle.value_snap.specs.Stores.{PublisherOf}
 use Rattle.live_session.specs.Sessions.{SessionOf}
-use Rattle.live_threads.specs.Threads.{site_count, IsFresh, IsNewPublisher, stores_of}
+use Rattle.live_threads.specs.Threads.{hub_site_count, IsFresh, IsNewPublisher, stores_of}
 use Rattle.live_threads.proofs.Lists.{numbered_length, rest_there, count_some}
 use Rattle.live_threads.proofs.Openings.{fresh_more, pass_next}
 use Rattle.live_threads.proofs.opening.begin_sites.Goals as goal
@@ -13,30 +13,30 @@ use Rattle.live_threads.proofs.opening.begin_sites.Goals as goal
 pub overflow_cast-site : goal.overflow_cast-site
 overflow_cast-site g c =
     let (book, opens, are) = c.requires.passes in
-    let many = numbered_length (new_pass book) (site_count c.args.script.now) c.args.passes.items are in
+    let many = numbered_length (new_pass book) (hub_site_count c.args.script.now) c.args.passes.items are in
     omega (arith, many, c.loop-pass.invariant.left, c.requires.script.few, c.len.ensures)
 
 pub overflow_add-site : goal.overflow_add-site
 overflow_add-site g c =
     let (book, opens, are) = c.requires.passes in
-    let many = numbered_length (new_pass book) (site_count c.args.script.now) c.args.passes.items are in
+    let many = numbered_length (new_pass book) (hub_site_count c.args.script.now) c.args.passes.items are in
     omega (arith, many, c.loop-pass.invariant.left, c.requires.script.few, c.len.ensures)
 
 pub begin_site-requires-clause-room : goal.begin_site-requires-clause-room
 begin_site-requires-clause-room g c =
     let (book, opens, are) = c.requires.passes in
-    let many = numbered_length (new_pass book) (site_count c.args.script.now) c.args.passes.items are in
+    let many = numbered_length (new_pass book) (hub_site_count c.args.script.now) c.args.passes.items are in
     let steps = c.in-Some.ensures.steps in
     omega (arith, many, steps.1, c.loop-pass.invariant.room, c.loop-pass.invariant.left, c.loop-pass.invariant.count, c.loop-pass.publishers.ok.0)
 
 pub begin_site-requires-clause-pass : goal.begin_site-requires-clause-pass
 begin_site-requires-clause-pass g c =
     let (book, opens, are) = c.requires.passes in
-    let many = numbered_length (new_pass book) (site_count c.args.script.now) c.args.passes.items are in
+    let many = numbered_length (new_pass book) (hub_site_count c.args.script.now) c.args.passes.items are in
     let steps = c.in-Some.ensures.steps in
-    let next = pass_next book (site_count c.args.script.now) (vec_len c.loop-pass.sessions) c.args.passes.items c.in-Some.pass _ _ are c.loop-pass.invariant.rest steps.0 in (
+    let next = pass_next book (hub_site_count c.args.script.now) (vec_len c.loop-pass.sessions) c.args.passes.items c.in-Some.pass _ _ are c.loop-pass.invariant.rest steps.0 in (
       book,
-      site_count c.args.script.now,
+      hub_site_count c.args.script.now,
       next ∙ ap (λ (n : ℕ). new_pass book (n + 1)) (sym c.len.ensures),
       opens,
       omega (arith, many, steps.1, c.loop-pass.invariant.left, c.len.ensures),
@@ -45,7 +45,7 @@ begin_site-requires-clause-pass g c =
 pub loop-pass-preserved : goal.loop-pass-preserved
 loop-pass-preserved g c =
     let (book0, opens0, are0) = c.requires.passes in
-    let n = site_count c.args.script.now in
+    let n = hub_site_count c.args.script.now in
     let k = vec_len c.loop-pass.sessions in
     let inv = c.loop-pass.invariant in
     let steps = c.in-Some.ensures.steps in
@@ -71,10 +71,10 @@ pub returns : goal.returns
 returns g c = λ book opens are.
     let inv = c.loop-pass.invariant in
     let done = c.in-None.ensures.steps in
-    let many = numbered_length (new_pass book) (site_count c.args.script.now) c.args.passes.items are in
+    let many = numbered_length (new_pass book) (hub_site_count c.args.script.now) c.args.passes.items are in
     let some : c.args.script.now.sites ≢ [] = λ none. absurd (let test = c.if-is_empty.ensures.1 none in cc) in
     let count = count_some c.args.script.now.sites some in
-    let all : vec_len c.loop-pass.sessions ≡ site_count c.args.script.now = omega (arith, many, done.0, inv.left) in
+    let all : vec_len c.loop-pass.sessions ≡ hub_site_count c.args.script.now = omega (arith, many, done.0, inv.left) in
     record {
       as_many = omega (arith, ap length c.from_vec.ensures, all, count, c.loop-pass.sessions.ok.0);
       fresh = λ k t at. inv.each book are k t (ap (λ (l : List SessionOf). slice_get l k) (sym c.from_vec.ensures) ∙ at);
