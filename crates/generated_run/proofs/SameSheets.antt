@@ -1,20 +1,25 @@
 -- When sheets by positions are equal.
-use Rattle.std.proofs.Common.{◌≡◌, ℕ, zero, suc, ◌+◌, ◌<◌, ◌≤◌, Bool, true, false, List, [], ◌∷◌, length, get_or, refl, ap, sym, ◌∙◌, subst, arith, Ok, Err, inl, inr}
-use Rattle.std.specs.Prelude.{map, slice_get, ◌↔◌, ◌⊎◌, Result, IfOk}
-use Rattle.std.proofs.lemmas.List.{ext_get_or, length-map}
+use Rattle.std.proofs.Common.{◌≡◌, ◌≢◌, ℕ, zero, suc, ◌+◌, ◌<◌, ◌≤◌, Bool, true, false, List, [], ◌∷◌, length, get_or, refl, ap, sym, ◌∙◌, subst, arith, Ok, Err, inl, inr}
+use Rattle.std.specs.Prelude.{map, filter, not, ◌&&◌, nat_eq, slice_get, slice_index, Contains, ◌↔◌, ◌⊎◌, Result, IfOk}
+use Rattle.std.specs.Cmp.Lexicographic.{pointwise, same_text, other_text}
+use Rattle.std.proofs.lemmas.List.{ext_get_or, get_or_default, length-map}
 use Rattle.ss_base.specs.declared.types.Memory.{Memory}
 use Rattle.sheet_ops.specs.declared.content.Content.{Content}
 use Rattle.sheet_ops.specs.declared.content.Content.TheVariants as content
-use Rattle.sheet_ops.specs.Lines.{AxisLine}
+use Rattle.sheet_ops.specs.Lines.{AxisLine, has_number}
+use Rattle.sheet_ops.specs.Transforms.{numbers_from}
+use Rattle.sheet_ops.proofs.Ids.{true_or_false}
+use Rattle.sheet_ops.proofs.Members.{has_contains, contains_has, has_filter, filter_same}
 use Rattle.sheet_ops.specs.Identity.{IdSheet}
 use Rattle.sheet_ops.specs.Naming.{locate_content}
 use Rattle.sheet_ops.specs.Placed.{PlacedSheet, placed, cell_at}
 use Rattle.sheet_grid.specs.declared.Kind.{Kind}
 use Rattle.sheet_grid.specs.declared.Kind.TheVariants as kind
-use Rattle.sheet_grid.specs.Cells.{kind_of}
+use Rattle.sheet_grid.specs.Cells.{kind_of, is_empty, occupied_places}
+use Rattle.sheet_grid.proofs.FilledColumns.{number_has, has_below}
 use Rattle.sheet_grid.specs.Kept.{by_numbers}
 use Rattle.sheet_grid.specs.Values.{NumberedSheet, kept_in, placed_in}
-use Rattle.generated_run.specs.Sameness.{SameMarks, SameRow, SameCells}
+use Rattle.generated_run.specs.Sameness.{SameMarks, SameRow, SameAmong, SameCells}
 
 -- lists that have the same at each place
 pub same_places : {A : Type 0} (xs ys : List A) → length xs ≡ length ys → ((k : ℕ) → k < length xs → slice_get xs k ≡ slice_get ys k) → xs ≡ ys
@@ -118,3 +123,86 @@ by_cells V W (Ok s) lines h = (
   (λ e. h.1 (λ row in_rows col in_cols. ap (λ (P : PlacedSheet). cell_at P row col) e)),
 )
 by_cells V W (Err e) lines h = tt
+
+-- ---- where both hold something in the same columns
+empty_is : (c : Content) → is_empty c ≡ true → c ≡ content.Empty
+empty_is content.Empty e = refl
+empty_is (content.Num z) e = absurd (cc)
+empty_is (content.Text t) e = absurd (cc)
+empty_is (content.Formula t) e = absurd (cc)
+
+module _ (P Q : PlacedSheet) (row : ℕ) (as_many : length P.cols ≡ length Q.cols) where
+  -- listed exactly where it is in the sheet and not empty
+  listed : (R : PlacedSheet) (col : ℕ) → col < length R.cols → has_number (occupied_places R row) col ≡ not (is_empty (cell_at R row col))
+  listed R col h =
+      has_filter (λ k. not (is_empty (cell_at R row k))) (numbers_from 0 (length R.cols)) col
+      ∙ ap (λ (t : Bool). t && not (is_empty (cell_at R row col))) (number_has 0 (length R.cols) col (omega arith) (omega (arith, h)))
+
+  pub listed_within : (cols : List ℕ) → cols ≡ occupied_places P row → (k : ℕ) → k < length cols → slice_index cols k < length P.cols
+  listed_within cols is k h =
+      let in_filter : has_number (occupied_places P row) (slice_index cols k) ≡ true = ap (λ (ns : List ℕ). has_number ns (slice_index cols k)) (sym is) ∙ contains_has cols (slice_index cols k) (k, h, get_or_default cols k (slice_index cols k) 0 h) in
+      let below = has_below 0 (length P.cols) (slice_index cols k)
+      (first_of (has_number (numbers_from 0 (length P.cols)) (slice_index cols k)) (not (is_empty (cell_at P row (slice_index cols k))))
+      (sym (has_filter (λ j. not (is_empty (cell_at P row j))) (numbers_from 0 (length P.cols)) (slice_index cols k)) ∙ in_filter)) in
+      omega (arith, below)
+    where
+      first_of : (s t : Bool) → s && t ≡ true → s ≡ true
+      first_of true t e = refl
+      first_of false t e = e
+
+  pub same_occupied : (cols : List ℕ) → cols ≡ occupied_places P row → cols ≡ occupied_places Q row → (b : Bool) → (b ≡ true) ↔ SameAmong P Q row cols → (b ≡ true) ↔ SameRow P Q row
+  same_occupied cols p q b here = (
+    (λ e col h. by_empty col h (true_or_false (is_empty (cell_at P row col))) (here.0 e)),
+    (λ all. here.1 (λ k h. all (slice_index cols k) (listed_within cols p k h))),
+  )
+    where
+      by_empty : (col : ℕ) → col < length P.cols → ((is_empty (cell_at P row col) ≡ true) ⊎ (is_empty (cell_at P row col) ≡ false)) → SameAmong P Q row cols → cell_at P row col ≡ cell_at Q row col
+      by_empty col h (inr full) among =
+          let there : has_number cols col ≡ true = ap (λ (ns : List ℕ). has_number ns col) p ∙ (listed P col h ∙ ap not full) in
+          at_index (has_contains cols col there)
+        where
+          at_index : Contains cols col → cell_at P row col ≡ cell_at Q row col
+          at_index (k, within, at) =
+              let is : slice_index cols k ≡ col = get_or_default cols k 0 col within ∙ at in
+              subst (λ (j : ℕ). cell_at P row j ≡ cell_at Q row j) is (among k within)
+      by_empty col h (inl none) among =
+          let other : not (is_empty (cell_at Q row col)) ≡ false =
+          sym (listed Q col (subst (λ (n : ℕ). col < n) as_many h)) ∙ (ap (λ (ns : List ℕ). has_number ns col) (sym q ∙ p) ∙ (listed P col h ∙ ap not none)) in
+          empty_is (cell_at P row col) none ∙ sym (empty_is (cell_at Q row col) (turned (is_empty (cell_at Q row col)) other))
+        where
+          turned : (t : Bool) → not t ≡ false → t ≡ true
+          turned true e = refl
+          turned false e = sym e
+
+  -- where the same is held, the same columns are filled
+  pub occupied_same : SameRow P Q row → occupied_places P row ≡ occupied_places Q row
+  occupied_same same =
+      filter_same (λ k. not (is_empty (cell_at P row k))) (λ k. not (is_empty (cell_at Q row k))) (numbers_from 0 (length P.cols))
+      (λ k there. ap (λ (c : Content). not (is_empty c)) (same k (let b = has_below 0 (length P.cols) k there in omega (arith, b))))
+      ∙ ap (λ (n : ℕ). filter (λ k. not (is_empty (cell_at Q row k))) (numbers_from 0 n)) as_many
+
+pub all_among : (P Q : PlacedSheet) (row : ℕ) (cols : List ℕ) (n : ℕ) → length cols ≤ n → ((k : ℕ) → k < n → cell_at P row (slice_index cols k) ≡ cell_at Q row (slice_index cols k)) → (true ≡ true) ↔ SameAmong P Q row cols
+all_among P Q row cols n long same = ((λ t k h. same k (omega arith)), (λ equal. refl))
+
+pub by_occupied : (P Q : PlacedSheet) (row : ℕ) → length P.cols ≡ length Q.cols → (cols others : List ℕ) → cols ≡ occupied_places P row → others ≡ occupied_places Q row → cols ≡ others → (r : Result Bool Memory) →
+    IfOk r (λ s. (s ≡ true) ↔ SameAmong P Q row cols) → IfOk r (λ s. (s ≡ true) ↔ SameRow P Q row)
+by_occupied P Q row as_many cols others p q same (Ok s) h = same_occupied P Q row as_many cols p (same ∙ q) s h
+by_occupied P Q row as_many cols others p q same (Err e) h = tt
+
+pub not_occupied : (P Q : PlacedSheet) (row : ℕ) → length P.cols ≡ length Q.cols → (cols others : List ℕ) → cols ≡ occupied_places P row → others ≡ occupied_places Q row → cols ≢ others → (false ≡ true) ↔ SameRow P Q row
+not_occupied P Q row as_many cols others p q differ = ((λ e. absurd (cc)), (λ same. absurd (differ (p ∙ (occupied_same P Q row as_many same ∙ sym q)))))
+
+-- what a test of two lists has told
+pub lists_equal : (xs ys : List ℕ) → false ≡ not (pointwise nat_eq xs ys) → xs ≡ ys
+lists_equal xs ys e = same_text xs ys (turned (pointwise nat_eq xs ys) e)
+  where
+    turned : (t : Bool) → false ≡ not t → true ≡ t
+    turned true e = refl
+    turned false e = sym e
+
+pub lists_differ : (xs ys : List ℕ) → true ≡ not (pointwise nat_eq xs ys) → xs ≢ ys
+lists_differ xs ys e = other_text xs ys (turned (pointwise nat_eq xs ys) e)
+  where
+    turned : (t : Bool) → true ≡ not t → false ≡ t
+    turned true e = sym e
+    turned false e = refl

@@ -1,14 +1,14 @@
-ghost use Rattle.std.specs.Prelude.{◌≡◌, ◌<◌, ◌↔◌, ℕ, true, length, IfOk};
+ghost use Rattle.std.specs.Prelude.{◌≡◌, ◌<◌, ◌↔◌, ℕ, true, length, slice_index, IfOk};
 ghost use Rattle.sheet_ops.specs.Placed.{cell_at, placed_size};
 ghost use Rattle.sheet_grid.specs.Values.{placed_in};
-ghost use Rattle.generated_run.specs.Sameness.{SameMarks, SameRow, SameCells};
+ghost use Rattle.generated_run.specs.Sameness.{SameMarks, SameRow, SameAmong, SameCells};
 
 use crate::contents::same_contents;
 use sheet_grid::{Kind, Sheet};
 use ss_base::Memory;
 
 /// Whether two sheets are equal by positions: the marks of their lines, and what their cells hold,
-/// hidden ones too. It looks once at each cell of both.
+/// hidden ones too. It takes time with the lines, and with the filled cells and their logarithm.
 pub fn same_sheets(a: &Sheet, b: &Sheet) -> Result<bool, Memory>
     ensures { IfOk result (λ same. (same ≡ true) ↔ (placed_in a.now ≡ placed_in b.now)) }
 {
@@ -66,14 +66,29 @@ fn same_cells(a: &Sheet, b: &Sheet) -> Result<bool, Memory>
     Ok(true)
 }
 
-/// Whether the cells of a row hold the same.
+/// Whether the cells of a row hold the same: of both sheets the same columns are filled, with the same.
 fn same_row(a: &Sheet, b: &Sheet, row: u32) -> Result<bool, Memory>
     requires size { placed_size (placed_in a.now) ≡ placed_size (placed_in b.now) }
     requires row { row < length (placed_in a.now).rows }
     ensures { IfOk result (λ same. (same ≡ true) ↔ SameRow (placed_in a.now) (placed_in b.now) row) }
 {
-    for col in 0..a.size().cols {
-        if !same_cell(a, b, row, col)? {
+    let cols = a.occupied(row)?;
+    let others = b.occupied(row)?;
+    if cols.as_slice() != others.as_slice() {
+        return Ok(false);
+    }
+    same_among(a, b, row, cols.as_slice())
+}
+
+/// Whether the cells of a row in these columns hold the same.
+fn same_among(a: &Sheet, b: &Sheet, row: u32, cols: &[u32]) -> Result<bool, Memory>
+    requires size { placed_size (placed_in a.now) ≡ placed_size (placed_in b.now) }
+    requires row { row < length (placed_in a.now).rows }
+    requires within { (k : ℕ) → k < length cols.now → slice_index cols.now k < length (placed_in a.now).cols }
+    ensures { IfOk result (λ same. (same ≡ true) ↔ SameAmong (placed_in a.now) (placed_in b.now) row cols.now) }
+{
+    for i in 0..cols.len() {
+        if !same_cell(a, b, row, cols[i])? {
             return Ok(false);
         }
     }

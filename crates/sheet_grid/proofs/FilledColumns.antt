@@ -1,6 +1,7 @@
--- The visible columns under which a row's map has a key are those to which its keys lead, in ascending order.
-use Rattle.std.proofs.Common.{Ordering, Less, Equal, Greater, ◌≡◌, ◌≢◌, ℕ, zero, suc, ◌<◌, ◌≤◌, Bool, true, false, cond, List, [], ◌∷◌, length, refl, ap, sym, ◌∙◌, subst, arith, inl, inr, Option, Some, None, eqb}
-use Rattle.std.specs.Prelude.{◌⊎◌, ◌&&◌, ◌||◌, nat_eq, nat_lt, filter, filter_map, slice_index, slice_index_or, slice_get, unwrap_or, is_some, Contains, AllPairs, IsPermutation, IsSorted}
+-- The columns under which a row's map has a key, all of them and the visible ones, are those to which its keys lead, in
+-- ascending order.
+use Rattle.std.proofs.Common.{Ordering, Less, Equal, Greater, ◌≡◌, ◌≢◌, ℕ, zero, suc, ◌+◌, ◌<◌, ◌≤◌, Bool, true, false, cond, List, [], ◌∷◌, length, get_or, refl, ap, sym, ◌∙◌, subst, arith, inl, inr, Option, Some, None, eqb}
+use Rattle.std.specs.Prelude.{◌⊎◌, ◌&&◌, ◌||◌, nat_eq, filter, filter_map, slice_index, slice_index_or, unwrap_or, is_some, AllPairs, IsPermutation, IsSorted}
 use Rattle.std.specs.List.{AllByRecursion, IsDistinct}
 use Rattle.std.specs.List.Sorted.{IsStrictlySortedBy}
 use Rattle.std.specs.Ordering.{nat_cmp, is_eq, MatchOrdering}
@@ -13,14 +14,14 @@ use Rattle.std.proofs.lemmas.List.{get_or_default}
 use Rattle.std.proofs.lemmas.List.Kept.{AllPairs-filter, AllPairs-cons, AllPairs-from_increasing}
 use Rattle.std.proofs.lemmas.List.Sorted.{IsNonDecreasingBy-from_sort, Contains-permutation, IsPermutation-sym}
 use Rattle.std.proofs.lemmas.Map.Keys.{sorted_head, sorted_tail, IsDistinct-cons, IsDistinct-IsPermutation, IsStrictlyIncreasing-from_distinct}
-use Rattle.marked_lines.specs.Marks.{visible_places, visible_before, places_from, place_of, visible_of}
+use Rattle.marked_lines.specs.Marks.{visible_places, visible_before, places_from}
 use Rattle.marked_lines.proofs.Positions.{places_from-low}
 use Rattle.marked_lines.proofs.Indexes.{place_of_shown, index_from_place}
 use Rattle.sheet_ops.specs.declared.content.Content.{Content}
 use Rattle.sheet_ops.specs.Lines.{has_number}
 use Rattle.sheet_ops.proofs.Ids.{same_number, number_self}
-use Rattle.sheet_ops.proofs.Members.{has_contains, contains_has, has_filter, ascending_same}
-use Rattle.sheet_grid.specs.Numbers.{mark_of}
+use Rattle.sheet_ops.specs.Transforms.{numbers_from}
+use Rattle.sheet_ops.proofs.Members.{has_contains, contains_has, has_filter, ascending_same, other_number}
 use Rattle.sheet_grid.specs.Kept.{NumberedAxis, held, rec_number}
 use Rattle.sheet_grid.specs.Numbering.{IsAxis, place_of_rec, is_dead, live_place}
 use Rattle.sheet_grid.proofs.Compared.{above_test}
@@ -171,6 +172,74 @@ key_held (e ∷ es) n = ap (λ (t : Bool). t || has_number (keys_of es) n) (eq_t
     by_test true rest = refl
     by_test false rest = rest
 
+-- ---- positions to which the keys of a map lead, each from the number of what stands there
+module _ (f : ℕ → Option ℕ) (number : ℕ → ℕ) (places : List ℕ) (rising : AllPairs (λ p q. p < q) places)
+    (at : (p : ℕ) → has_number places p ≡ true → f (number p) ≡ Some p) (from : (n p : ℕ) → f n ≡ Some p → (number p ≡ n) × (has_number places p ≡ true))
+    (m : BTreeMap ℕ Content) (up : IsOrdered nat_cmp m) where
+  led_one : (i n p : ℕ) → f i ≡ Some p → f n ≡ Some p → i ≡ n
+  led_one i n p d e = sym (from i p d).0 ∙ (from n p e).0
+
+  pub led_are : (xs ys : List ℕ) → xs ≡ filter_map f (keys m) → IsPermutation xs ys → IsSorted nat_cmp ys → ys ≡ filter (λ p. is_some (held m (number p))) places
+  led_are xs ys is perm sorted =
+      ascending_same ys (filter (λ p. is_some (held m (number p))) places) ascending
+      (AllPairs-filter (λ p q. p < q) (λ p. is_some (held m (number p))) places rising) (λ p.
+      same_tests (has_number ys p) (has_number (filter (λ q. is_some (held m (number q))) places) p) (there p) (back p))
+    where
+      distinct : IsDistinct eqb xs
+      distinct = subst (IsDistinct eqb) (sym is) (led_distinct f led_one (keys m) up)
+
+      ascending : AllPairs (λ p q. p < q) ys
+      ascending = AllPairs-from_increasing ys (IsStrictlyIncreasing-from_distinct ys (IsNonDecreasingBy-from_sort (λ p. p) ys sorted) (IsDistinct-IsPermutation eqb (λ a b. turned a b) xs ys perm distinct))
+        where
+          turned : (a b : ℕ) → eqb a b ≡ eqb b a
+          turned a b = grind (arith, nat_tests)
+
+      there : (p : ℕ) → has_number ys p ≡ true → has_number (filter (λ q. is_some (held m (number q))) places) p ≡ true
+      there p h =
+          let into : has_number xs p ≡ true = contains_has xs p (Contains-permutation ys xs p (IsPermutation-sym xs ys perm) (has_contains ys p h)) in
+          let (n, key, leads) = led_from f (keys m) p (ap (λ (zs : List ℕ). has_number zs p) (sym is) ∙ into) in
+          let (stands, shown) = from n p leads in
+          has_filter (λ q. is_some (held m (number q))) places p
+          ∙ (ap (λ (t : Bool). t && is_some (held m (number p))) shown
+          ∙ (ap (λ (j : ℕ). is_some (held m j)) stands ∙ (sym (key_held m.entries n) ∙ key)))
+
+      back : (p : ℕ) → has_number (filter (λ q. is_some (held m (number q))) places) p ≡ true → has_number ys p ≡ true
+      back p h =
+          let (seen, kept) = both_tests (has_number places p) (is_some (held m (number p))) (sym (has_filter (λ q. is_some (held m (number q))) places p) ∙ h) in
+          let into : has_number xs p ≡ true =
+          ap (λ (zs : List ℕ). has_number zs p) is ∙ led_to f (keys m) (number p) p (key_held m.entries (number p) ∙ kept) (at p seen) in
+          contains_has ys p (Contains-permutation xs ys p perm (has_contains xs p into))
+
+-- ---- all positions
+numbers_rising : (first count : ℕ) → AllPairs (λ p q. p < q) (numbers_from first count)
+numbers_rising first zero = λ i j d lt within. absurd (omega arith)
+numbers_rising first (suc count) =
+    AllPairs-cons (λ p q. p < q) first (numbers_from (suc first) count) (λ k d within. let h = low (suc first) count k d within in omega arith) (numbers_rising (suc first) count)
+  where
+    low : (first count k d : ℕ) → k < length (numbers_from first count) → first ≤ get_or (numbers_from first count) k d
+    low first zero k d h = absurd (omega arith)
+    low first (suc count) zero d h = omega arith
+    low first (suc count) (suc k) d h = let r = low (suc first) count k d (omega arith) in omega arith
+
+pub number_has : (first count p : ℕ) → first ≤ p → p < first + count → has_number (numbers_from first count) p ≡ true
+number_has first zero p from below = absurd (omega arith)
+number_has first (suc count) p from below = by_head (bool_cases (nat_eq first p)) (λ beyond. number_has (suc first) count p beyond (omega (arith, below)))
+  where
+    by_head : ((nat_eq first p ≡ true) ⊎ (nat_eq first p ≡ false)) → (suc first ≤ p → has_number (numbers_from (suc first) count) p ≡ true) → nat_eq first p || has_number (numbers_from (suc first) count) p ≡ true
+    by_head (inl e) rest = ap (λ (t : Bool). t || has_number (numbers_from (suc first) count) p) e
+    by_head (inr e) rest = or_right (nat_eq first p) (has_number (numbers_from (suc first) count) p) (rest (let h = other_number first p e in beyond first p from h))
+      where
+        beyond : (m n : ℕ) → m ≤ n → m ≢ n → suc m ≤ n
+        beyond m n h apart = grind (arith, nat_tests)
+
+pub has_below : (first count p : ℕ) → has_number (numbers_from first count) p ≡ true → p < first + count
+has_below first zero p h = clash (sym h)
+has_below first (suc count) p h = by_head (bool_cases (nat_eq first p)) h (λ g. has_below (suc first) count p g)
+  where
+    by_head : ((nat_eq first p ≡ true) ⊎ (nat_eq first p ≡ false)) → nat_eq first p || has_number (numbers_from (suc first) count) p ≡ true → (has_number (numbers_from (suc first) count) p ≡ true → p < suc first + count) → p < first + suc count
+    by_head (inl e) g rest = let s = same_number first p e in omega (arith, s)
+    by_head (inr e) g rest = let b = rest (ap (λ (t : Bool). t || has_number (numbers_from (suc first) count) p) (sym e) ∙ g) in omega (arith, b)
+
 -- ---- where the record with a number stands
 module _ (k : NumberedAxis) (ax : IsAxis k) where
   dead_at : (p : ℕ) → p < length k.slots → is_dead k (slice_index k.recs p) ≡ slice_index_or k.marks p true
@@ -198,39 +267,28 @@ module _ (k : NumberedAxis) (ax : IsAxis k) where
       by_dead false d f (inr above) = absurd (let off : place_of_rec k n ≡ None = rw (above_test n (length k.slots) above) refl in cc)
       by_dead false d f (inl below) = let (h, at) = ax.2.recs.forth n (let c = recs_count k ax in omega (arith, c, below)) in at_place (slice_index ax.1 n) h at d f
 
-  live_one : (m n p : ℕ) → live_place k m ≡ Some p → live_place k n ≡ Some p → m ≡ n
-  live_one m n p e f = sym (live_from m p e).0 ∙ (live_from n p f).0
+  rec_from : (n p : ℕ) → place_of_rec k n ≡ Some p → (slice_index k.recs p ≡ n) × (has_number (numbers_from 0 (length k.slots)) p ≡ true)
+  rec_from n p e = by_side e (cases_lt n (length k.slots))
+    where
+      at_place : (q : ℕ) → q < length k.recs → slice_index k.recs q ≡ n → place_of_rec k n ≡ Some p → (slice_index k.recs p ≡ n) × (has_number (numbers_from 0 (length k.slots)) p ≡ true)
+      at_place q h stands found =
+          let h' : q < length k.slots = let c = recs_count k ax in omega (arith, c, h) in
+          let same : q ≡ p = ap (λ (o : Option ℕ). unwrap_or o 0) (sym (ap (place_of_rec k) (sym stands) ∙ rec_at-place k ax q h') ∙ found) in
+          subst (λ (r : ℕ). (slice_index k.recs r ≡ n) × (has_number (numbers_from 0 (length k.slots)) r ≡ true)) same (stands, number_has 0 (length k.slots) q (omega arith) (omega (arith, h')))
+
+      by_side : place_of_rec k n ≡ Some p → ((n < length k.slots) ⊎ (length k.slots ≤ n)) → (slice_index k.recs p ≡ n) × (has_number (numbers_from 0 (length k.slots)) p ≡ true)
+      by_side f (inr above) = absurd (let off : place_of_rec k n ≡ None = rw (above_test n (length k.slots) above) refl in cc)
+      by_side f (inl below) = let (h, stands) = ax.2.recs.forth n (let c = recs_count k ax in omega (arith, c, below)) in at_place (slice_index ax.1 n) h stands f
 
   -- ---- together
   module _ (m : BTreeMap ℕ Content) (up : IsOrdered nat_cmp m) where
     pub filled_are : (xs ys : List ℕ) → xs ≡ filter_map (live_place k) (keys m) → IsPermutation xs ys → IsSorted nat_cmp ys → ys ≡ filter (λ p. is_some (held m (rec_number k p))) (visible_places k.marks)
-    filled_are xs ys is perm sorted =
-        ascending_same ys (filter (λ p. is_some (held m (rec_number k p))) (visible_places k.marks)) ascending
-        (AllPairs-filter (λ p q. p < q) (λ p. is_some (held m (rec_number k p))) (visible_places k.marks) (ascending_places 0 k.marks)) (λ p.
-        same_tests (has_number ys p) (has_number (filter (λ q. is_some (held m (rec_number k q))) (visible_places k.marks)) p) (there p) (back p))
-      where
-        distinct : IsDistinct eqb xs
-        distinct = subst (IsDistinct eqb) (sym is) (led_distinct (live_place k) live_one (keys m) up)
+    filled_are =
+        led_are (live_place k) (rec_number k) (visible_places k.marks) (ascending_places 0 k.marks) (λ p seen. live_at p (has_visible k.marks p seen))
+        (λ n p leads. let (stands, shown) = live_from n p leads in (stands, visible_has k.marks p shown)) m up
 
-        ascending : AllPairs (λ p q. p < q) ys
-        ascending = AllPairs-from_increasing ys (IsStrictlyIncreasing-from_distinct ys (IsNonDecreasingBy-from_sort (λ p. p) ys sorted) (IsDistinct-IsPermutation eqb (λ a b. turned a b) xs ys perm distinct))
-          where
-            turned : (a b : ℕ) → eqb a b ≡ eqb b a
-            turned a b = grind (arith, nat_tests)
-
-        there : (p : ℕ) → has_number ys p ≡ true → has_number (filter (λ q. is_some (held m (rec_number k q))) (visible_places k.marks)) p ≡ true
-        there p h =
-            let from : has_number xs p ≡ true = contains_has xs p (Contains-permutation ys xs p (IsPermutation-sym xs ys perm) (has_contains ys p h)) in
-            let (n, key, leads) = led_from (live_place k) (keys m) p (ap (λ (zs : List ℕ). has_number zs p) (sym is) ∙ from) in
-            let (at, shown) = live_from n p leads in
-            has_filter (λ q. is_some (held m (rec_number k q))) (visible_places k.marks) p
-            ∙ (ap (λ (t : Bool). t && is_some (held m (rec_number k p))) (visible_has k.marks p shown)
-            ∙ (ap (λ (j : ℕ). is_some (held m j)) at ∙ (sym (key_held m.entries n) ∙ key)))
-
-        back : (p : ℕ) → has_number (filter (λ q. is_some (held m (rec_number k q))) (visible_places k.marks)) p ≡ true → has_number ys p ≡ true
-        back p h =
-            let (seen, kept) = both_tests (has_number (visible_places k.marks) p) (is_some (held m (rec_number k p))) (sym (has_filter (λ q. is_some (held m (rec_number k q))) (visible_places k.marks) p) ∙ h) in
-            let shown = has_visible k.marks p seen in
-            let into : has_number xs p ≡ true =
-            ap (λ (zs : List ℕ). has_number zs p) is ∙ led_to (live_place k) (keys m) (rec_number k p) p (key_held m.entries (rec_number k p) ∙ kept) (live_at p shown) in
-            contains_has ys p (Contains-permutation xs ys p perm (has_contains xs p into))
+    pub occupied_are : (xs ys : List ℕ) → xs ≡ filter_map (place_of_rec k) (keys m) → IsPermutation xs ys → IsSorted nat_cmp ys →
+        ys ≡ filter (λ p. is_some (held m (rec_number k p))) (numbers_from 0 (length k.slots))
+    occupied_are =
+        led_are (place_of_rec k) (rec_number k) (numbers_from 0 (length k.slots)) (numbers_rising 0 (length k.slots))
+        (λ p there. rec_at-place k ax p (let b = has_below 0 (length k.slots) p there in omega (arith, b))) rec_from m up

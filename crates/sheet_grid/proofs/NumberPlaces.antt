@@ -1,7 +1,6 @@
 -- What holds of the lines of an axis, and where a number is found.
 use Rattle.std.proofs.Common.{◌≡◌, ℕ, zero, suc, ◌<◌, ◌≤◌, ◌++◌, Bool, true, false, cond, List, [], ◌∷◌, length, refl, ap, sym, ◌∙◌, subst, arith, Option, Some, None}
-use Rattle.std.specs.Prelude.{◌↔◌, nat_lt, map, slice_get, slice_index, slice_index_or, slice_set, unwrap_or, IfSome, IsNone}
-use Rattle.std.proofs.lemmas.Bool.Decides.{nat_tests}
+use Rattle.std.specs.Prelude.{◌↔◌, map, slice_get, slice_index, slice_index_or, slice_set, unwrap_or, IfSome, IsNone}
 use Rattle.std.proofs.Math.ListN.{length-set}
 use Rattle.marked_lines.specs.Moves.{image, IsPerm, MovesBelow, after_insertion}
 use Rattle.sheet_ops.specs.LineIds.{opening_id}

@@ -19,8 +19,9 @@ use Rattle.sheet_ops.specs.Fits.{GridFits}
 use Rattle.std.proofs.lemmas.List.{length-map}
 use Rattle.marked_lines.specs.Marks.{visible_places}
 use Rattle.sheet_ops.specs.Lines.{has_number}
+use Rattle.sheet_ops.specs.Transforms.{numbers_from}
 use Rattle.sheet_ops.proofs.Members.{filter_same}
-use Rattle.sheet_grid.specs.Cells.{kind_of, is_empty, filled_places}
+use Rattle.sheet_grid.specs.Cells.{kind_of, is_empty, filled_places, occupied_places}
 use Rattle.sheet_grid.specs.Kept.{NumberedAxis, axis, content_meant, by_numbers, kept_of, IsSheet, IsTidy, rec_number, held, no_cells, cell_kept}
 use Rattle.sheet_grid.specs.Values.{NumberedSheet, placed_in, stored_at, numbered_sheet_of}
 use Rattle.sheet_grid.specs.Numbering.{lines_alone, content_placed}
@@ -31,7 +32,7 @@ use Rattle.sheet_grid.proofs.TidySheets.{Maps, rows_axis, cols_axis}
 use Rattle.sheet_grid.proofs.SheetValues.{stored_is, placed_is}
 use Rattle.sheet_grid.proofs.Marks.{marks_kept}
 use Rattle.sheet_grid.proofs.NumberPlaces.{recs_count, marks_count}
-use Rattle.sheet_grid.proofs.FilledColumns.{has_visible, mark_there}
+use Rattle.sheet_grid.proofs.FilledColumns.{has_visible, mark_there, has_below}
 use Rattle.sheet_grid.proofs.StoredCells.{held-index}
 
 -- where references stand has nothing to do with what the cells hold
@@ -122,12 +123,13 @@ module _ (rows cols : NumberedAxis) (maps : Maps) (ok : IsTidy rows cols maps) (
   pub stored_read : (rec col : ℕ) → cell_kept maps rec col ≡ stored_at V.cells rec col
   stored_read rec col = sym (stored_is rows cols maps ok rec col) ∙ ap (λ (W : NumberedSheet). stored_at W.cells rec col) is
 
-  -- the filled columns of the map of a row
-  pub filled_read : (d : BTreeMap ℕ Content) (row : ℕ) → row < length (placed_in V).rows →
-      filter (λ p. is_some (held (slice_index_or maps (slice_index rows.recs row) d) (rec_number cols p))) (visible_places cols.marks) ≡ filled_places (placed_in V) row
-  filled_read d row h =
-      filter_same (λ p. is_some (held (slice_index_or maps (slice_index rows.recs row) d) (rec_number cols p))) (λ p. not (is_empty (cell_at (placed_in V) row p))) (visible_places cols.marks) same
-      ∙ ap (λ (ms : List Bool). filter (λ p. not (is_empty (cell_at (placed_in V) row p))) (visible_places ms)) col_marks
+  -- the columns of the map of a row under which something is
+  key_read : (d : BTreeMap ℕ Content) (row : ℕ) → row < length (placed_in V).rows → (p : ℕ) → p < length (placed_in V).cols →
+      is_some (held (slice_index_or maps (slice_index rows.recs row) d) (rec_number cols p)) ≡ not (is_empty (cell_at (placed_in V) row p))
+  key_read d row h p within =
+      ap (λ (cells : ℕ → Option Content). is_some (cells (rec_number cols p))) (held-index maps (slice_index rows.recs row) d there)
+      ∙ (filled_is (slice_index_or (map held maps) (slice_index rows.recs row) no_cells (rec_number cols p)) (ok.filled (slice_index rows.recs row) (rec_number cols p))
+      ∙ ap not (sym (empty_placed rows cols (cell_kept maps (slice_index rows.recs row) (rec_number cols p))) ∙ ap is_empty (cell_read row p h within)))
     where
       there : slice_index rows.recs row < length maps
       there =
@@ -136,6 +138,12 @@ module _ (rows cols : NumberedAxis) (maps : Maps) (ok : IsTidy rows cols maps) (
           let m = ok.as_many in
           omega (arith, b.0, e, m)
 
+  pub filled_read : (d : BTreeMap ℕ Content) (row : ℕ) → row < length (placed_in V).rows →
+      filter (λ p. is_some (held (slice_index_or maps (slice_index rows.recs row) d) (rec_number cols p))) (visible_places cols.marks) ≡ filled_places (placed_in V) row
+  filled_read d row h =
+      filter_same (λ p. is_some (held (slice_index_or maps (slice_index rows.recs row) d) (rec_number cols p))) (λ p. not (is_empty (cell_at (placed_in V) row p))) (visible_places cols.marks) same
+      ∙ ap (λ (ms : List Bool). filter (λ p. not (is_empty (cell_at (placed_in V) row p))) (visible_places ms)) col_marks
+    where
       same : (p : ℕ) → has_number (visible_places cols.marks) p ≡ true → is_some (held (slice_index_or maps (slice_index rows.recs row) d) (rec_number cols p)) ≡ not (is_empty (cell_at (placed_in V) row p))
       same p seen =
           let within : p < length (placed_in V).cols =
@@ -143,9 +151,14 @@ module _ (rows cols : NumberedAxis) (maps : Maps) (ok : IsTidy rows cols maps) (
           let m = marks_count cols (cols_axis rows cols maps ok) in
           let n = col_places in
           omega (arith, i, m, n) in
-          ap (λ (cells : ℕ → Option Content). is_some (cells (rec_number cols p))) (held-index maps (slice_index rows.recs row) d there)
-          ∙ (filled_is (slice_index_or (map held maps) (slice_index rows.recs row) no_cells (rec_number cols p)) (ok.filled (slice_index rows.recs row) (rec_number cols p))
-          ∙ ap not (sym (empty_placed rows cols (cell_kept maps (slice_index rows.recs row) (rec_number cols p))) ∙ ap is_empty (cell_read row p h within)))
+          key_read d row h p within
+
+  pub occupied_read : (d : BTreeMap ℕ Content) (row : ℕ) → row < length (placed_in V).rows →
+      filter (λ p. is_some (held (slice_index_or maps (slice_index rows.recs row) d) (rec_number cols p))) (numbers_from 0 (length cols.slots)) ≡ occupied_places (placed_in V) row
+  occupied_read d row h =
+      filter_same (λ p. is_some (held (slice_index_or maps (slice_index rows.recs row) d) (rec_number cols p))) (λ p. not (is_empty (cell_at (placed_in V) row p))) (numbers_from 0 (length cols.slots))
+      (λ p there. key_read d row h p (let b = has_below 0 (length cols.slots) p there in let n = col_places in omega (arith, b, n)))
+      ∙ ap (λ (n : ℕ). filter (λ p. not (is_empty (cell_at (placed_in V) row p))) (numbers_from 0 n)) (sym col_places)
 
 -- an effect done by positions is the position step
 pub steps_done : (P : PlacedSheet) (e : Effect) (Q : PlacedSheet) → EffectFits (placed_size P) e → GridFits (placed_size P) P.cells → Q ≡ effect_on P e → StepsTo P e Q

@@ -1,5 +1,5 @@
 -- Room for every effect.
-use Rattle.std.proofs.Common.{ℕ, ◌<◌}
+use Rattle.std.proofs.Common.{◌<◌}
 use Rattle.ss_base.specs.declared.types.Size.{Size}
 use Rattle.sheet_ops.specs.declared.operation.Effect.{Effect}
 use Rattle.sheet_ops.specs.declared.operation.Effect.TheVariants as effect

@@ -1,5 +1,5 @@
 -- The value that contracts see of what a sheet keeps, before and after each kind of effect.
-use Rattle.std.proofs.Common.{◌≡◌, ℕ, ◌+◌, ◌<◌, ◌≤◌, List, [], ◌∷◌, ◌++◌, length, refl, ap, sym, ◌∙◌, subst, arith, inl, inr}
+use Rattle.std.proofs.Common.{◌≡◌, ℕ, ◌+◌, ◌<◌, ◌≤◌, List, [], ◌∷◌, ◌++◌, length, ap, sym, ◌∙◌, subst, arith, inl, inr}
 use Rattle.std.specs.Prelude.{◌⊎◌, map, slice_index_or, unwrap_or, Option, Result, Ok, Err, OnOk, OnErr}
 use Rattle.std.specs.BTreeMap.{BTreeMap}
 use Rattle.std.proofs.lemmas.Bool.{cases_lt}
@@ -16,7 +16,7 @@ use Rattle.sheet_ops.specs.Placed.{placed}
 use Rattle.sheet_grid.specs.Kept.{NumberedAxis, KeptSheet, by_numbers, kept_of, kept_size, IsSheet, IsTidy, held, no_cells, cell_kept, line_added, recs_moved}
 use Rattle.sheet_grid.specs.Rows.{puts_kept, AddsNoEmpty, AllFit}
 use Rattle.sheet_grid.specs.Numbering.{put_numbered}
-use Rattle.sheet_grid.specs.Values.{NumberedSheet, stored_at, kept_in, placed_in, numbered_size, contents_from, grid_of, numbered_sheet_of, IsShaped, IsNumberedSheet, numbered_past}
+use Rattle.sheet_grid.specs.Values.{NumberedSheet, stored_at, kept_in, placed_in, numbered_size, grid_of, numbered_sheet_of, IsShaped, IsNumberedSheet, numbered_past}
 use Rattle.sheet_grid.proofs.StoredCells.{length-held}
 use Rattle.sheet_grid.proofs.Grids.{same_grids, shape_puts, stored_puts, content_at, past_end, row_at, no_row_at, shape_grid, grid_row_more, grid_col_more}
 use Rattle.sheet_grid.proofs.MarkedLines.{marked}

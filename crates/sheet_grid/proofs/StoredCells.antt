@@ -124,6 +124,9 @@ settled_filled (Some (content.Formula t)) e = cc
 pub first_in_rows : (n : ℕ) (puts : List Put) (p : Put) (rest : List Put) → puts ≡ p ∷ rest → AreInRows n puts → p.row < n
 first_in_rows n puts p rest e h = (rw e at h).0
 
+pub others_in_rows : (n : ℕ) (puts : List Put) (p : Put) (rest : List Put) → puts ≡ p ∷ rest → AreInRows n puts → AreInRows n rest
+others_in_rows n puts p rest e h = (rw e at h).1
+
 -- ---- one cell stored, then others written, then the one settled or put back
 module _ (rows : List (BTreeMap ℕ Content)) (p : Put) (what : Content) (d row : BTreeMap ℕ Content) (inside : p.row < length rows) (stored : held row ≡ with_column (held (slice_index_or rows p.row d)) p.col (Some what)) where
   stored_first : map held (slice_set rows p.row row) ≡ cell_set (map held rows) p.row p.col (Some what)

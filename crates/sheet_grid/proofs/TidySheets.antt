@@ -1,12 +1,11 @@
 -- What holds of all that a sheet keeps, after each kind of effect.
-use Rattle.std.proofs.Common.{◌≡◌, ℕ, zero, suc, ◌+◌, ◌<◌, ◌≤◌, ◌++◌, List, [], ◌∷◌, length, refl, ap, sym, ◌∙◌, subst, arith}
+use Rattle.std.proofs.Common.{◌≡◌, ℕ, zero, suc, ◌+◌, ◌<◌, ◌≤◌, ◌++◌, List, [], ◌∷◌, length, refl, ap, sym, ◌∙◌, subst}
 use Rattle.std.specs.Prelude.{map, take, slice_index_or, unwrap_or, Result, Ok, Err, OnErr}
 use Rattle.std.specs.BTreeMap.{BTreeMap, is_at}
 use Rattle.std.specs.Map.{lookup}
 use Rattle.std.specs.Ordering.{nat_cmp}
 use Rattle.std.proofs.lemmas.List.{length-append}
 use Rattle.std.proofs.lemmas.List.Edits.{length-insert}
-use Rattle.ss_base.specs.declared.types.Size.{Size}
 use Rattle.marked_lines.specs.Moves.{IsPerm, MovesBelow}
 use Rattle.sheet_ops.specs.declared.content.Content.{Content}
 use Rattle.sheet_ops.specs.declared.content.Content.TheVariants as content

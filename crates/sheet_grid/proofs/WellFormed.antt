@@ -1,5 +1,5 @@
 -- What is kept is a well-formed sheet by identity, and an insertion leaves what it does by positions.
-use Rattle.std.proofs.Common.{◌≡◌, ℕ, ◌<◌, ◌≤◌, ◌≢◌, Bool, true, false, cond, List, [], ◌∷◌, length, get_or, refl, ap, sym, ◌∙◌, subst, arith, All}
+use Rattle.std.proofs.Common.{◌≡◌, ℕ, ◌<◌, ◌≢◌, Bool, true, false, cond, List, length, get_or, refl, ap, sym, ◌∙◌, subst, arith, All}
 use Rattle.std.specs.Prelude.{◌&&◌, nat_eq, map, slice_index}
 use Rattle.std.proofs.lemmas.Bool.Decides.{nat_tests}
 use Rattle.std.proofs.lemmas.List.{get_or_default}
@@ -19,7 +19,7 @@ use Rattle.sheet_ops.proofs.Places.{apart_from, avoids_from, has_place, id_at}
 use Rattle.sheet_ops.proofs.Renamed.{rename_rename, references_after}
 use Rattle.sheet_ops.specs.Fits.{GridFits}
 use Rattle.sheet_grid.specs.Numbers.{IsNumbered}
-use Rattle.sheet_grid.specs.Kept.{NumberedAxis, KeptSheet, axis, cell_meant, range_meant, content_meant, by_numbers, kept_size, line_added, IsKeptAxis, IsKeptSheet}
+use Rattle.sheet_grid.specs.Kept.{NumberedAxis, KeptSheet, axis, cell_meant, range_meant, content_meant, by_numbers, kept_size, IsKeptAxis, IsKeptSheet}
 use Rattle.sheet_grid.proofs.InsertedNumbers.{mark_none}
 use Rattle.sheet_grid.proofs.Meanings.{slot_there, rec_there, length-lines_of}
 

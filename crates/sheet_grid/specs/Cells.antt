@@ -8,6 +8,7 @@ use Rattle.formula_tree.specs.Tree.{Tree}
 use Rattle.sheet_ops.specs.declared.content.Content.{Content}
 use Rattle.sheet_ops.specs.declared.content.Content.TheVariants as content
 use Rattle.sheet_ops.specs.Placed.{PlacedSheet, cell_at}
+use Rattle.sheet_ops.specs.Transforms.{numbers_from}
 use Rattle.sheet_grid.specs.declared.Kind.{Kind}
 use Rattle.sheet_grid.specs.declared.Kind.TheVariants as kind
 
@@ -38,3 +39,7 @@ visible_size P = record { rows = length (visible_places P.rows); cols = length (
 -- the visible columns, by their positions, whose cell in a row isn't empty
 abbrev pub filled_places : PlacedSheet → ℕ → List ℕ
 filled_places P row = filter (λ col. not (is_empty (cell_at P row col))) (visible_places P.cols)
+
+-- all columns, by their positions, whose cell in a row isn't empty
+abbrev pub occupied_places : PlacedSheet → ℕ → List ℕ
+occupied_places P row = filter (λ col. not (is_empty (cell_at P row col))) (numbers_from 0 (length P.cols))

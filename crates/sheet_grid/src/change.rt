@@ -96,8 +96,8 @@ impl Sheet {
         ensures ordered { OnOk result (All (λ p. HasOrderedRanges p.content) puts.now) }
         ensures err { OnErr result (self.new ≡ self.old) }
     {
-        let numbered = puts_numbered(*self.cells.allocator(), &self.rows, &self.cols, puts)?;
-        write_puts(self.cells.as_mut_slice(), &numbered)
+        let mut numbered = puts_numbered(*self.cells.allocator(), &self.rows, &self.cols, puts)?;
+        write_puts(self.cells.as_mut_slice(), &mut numbered)
     }
 
     // A new row before the one at a position, or behind the last one.

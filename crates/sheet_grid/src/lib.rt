@@ -53,6 +53,3 @@ impl Model for Sheet {
 
     ghost invariant = { λ s. IsTidy s.rows s.cols s.cells.items };
 }
-
-#[cfg(test)]
-mod tests;

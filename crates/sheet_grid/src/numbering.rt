@@ -11,6 +11,7 @@ use formula_tree::{Formula, Remap, rename};
 use sheet_ops::{Content, Put};
 use ss_base::{Memory, Seq};
 use std::alloc::Global;
+use std::collections::VecDeque;
 
 /// The numbers of what stands at positions.
 #[derive(Drop)]
@@ -146,17 +147,17 @@ pub fn puts_numbered(
     rows: &AxisLines,
     cols: &AxisLines,
     puts: &[Put],
-) -> Result<Vec<Put>, Memory>
+) -> Result<VecDeque<Put>, Memory>
     requires rows { IsAxis rows.now }
     requires cols { IsAxis cols.now }
     requires fit { AllFit (record { rows = length rows.now.slots; cols = length cols.now.slots }) puts.now }
     ensures value { IfOk result (λ ps. ps.items ≡ map (put_numbered rows.now cols.now) puts.now) }
     ensures ordered { IfOk result (λ ps. All (λ p. HasOrderedRanges p.content) puts.now) }
 {
-    let mut numbered = Vec::with_capacity(alloc, puts.len())?;
+    let mut numbered = VecDeque::with_capacity(alloc, puts.len())?;
     for put in puts {
         let content = content_numbered(rows, cols, &put.content)?;
-        numbered.push(Put {
+        numbered.push_back(Put {
             row: rows.rec_number(put.row),
             col: cols.rec_number(put.col),
             content,

@@ -2,13 +2,13 @@ ghost use Rattle.std.specs.Prelude.{◌≡◌, ◌<◌, length, slice_index, Non
 ghost use Rattle.sheet_ops.specs.Placed.{cell_at};
 ghost use Rattle.sheet_ops.specs.Fits.{ContentFits};
 ghost use Rattle.sheet_ops.specs.declared.content.Content.TheVariants as content;
-ghost use Rattle.sheet_grid.specs.Cells.{kind_of, formula_of, filled_places};
+ghost use Rattle.sheet_grid.specs.Cells.{kind_of, formula_of, filled_places, occupied_places};
 ghost use Rattle.sheet_grid.specs.Kept.{held};
 ghost use Rattle.sheet_grid.specs.Numbering.{content_placed};
 ghost use Rattle.sheet_grid.specs.Values.{placed_in, stored_at};
 
 use crate::axis::AxisLines;
-use crate::filled::filled_columns;
+use crate::filled::{filled_columns, occupied_columns};
 use crate::numbering::content_placed;
 use crate::row::{formula_in, kind_in};
 use crate::{Kind, Sheet};
@@ -65,6 +65,16 @@ impl Sheet {
     {
         let cells = &self.cells[self.rows.rec_number(row) as usize];
         filled_columns(*self.cells.allocator(), &self.cols, cells)
+    }
+
+    /// The positions, ascending, of all columns, hidden ones too, whose cell in a row isn't empty, by
+    /// the row's position. It takes time with the row's filled cells and their logarithm.
+    pub fn occupied(&self, row: u32) -> Result<Vec<u32>, Memory>
+        requires { row < length (placed_in self.now).rows }
+        ensures { IfOk result (λ v. v.items ≡ occupied_places (placed_in self.now) row) }
+    {
+        let cells = &self.cells[self.rows.rec_number(row) as usize];
+        occupied_columns(*self.cells.allocator(), &self.cols, cells)
     }
 }
 

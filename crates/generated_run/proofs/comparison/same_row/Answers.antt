@@ -1,16 +1,22 @@
-use Rattle.std.proofs.Common.{◌≡◌, ◌≤◌, subst}
+use Rattle.std.proofs.Common.{ap, length, ◌∙◌, sym, subst, ◌<◌, ℕ, List}
+use Rattle.std.specs.Prelude.{slice_index}
 use Rattle.ss_base.specs.declared.types.Size.{Size}
-use Rattle.sheet_ops.specs.Placed.{cell_at}
 use Rattle.sheet_grid.specs.Values.{placed_in}
-use Rattle.generated_run.proofs.SameSheets.{all_cells, one_more}
+use Rattle.generated_run.proofs.SameSheets.{listed_within, by_occupied, not_occupied, lists_equal, lists_differ}
 use Rattle.generated_run.proofs.comparison.same_row.Goals as goal
 
-pub loop-col-preserved : goal.loop-col-preserved
-loop-col-preserved c =
-    one_more (λ k. cell_at (placed_in c.args.a.now) c.args.row k ≡ cell_at (placed_in c.args.b.now) c.args.row k) c.loop-col.col c.in_ok-same_cell.field-0
-    c.loop-col.invariant c.in_ok-same_cell.ensures c.if-not-branch.false
+pub returns-then-ne : goal.returns-then-ne
+returns-then-ne c =
+    not_occupied (placed_in c.args.a.now) (placed_in c.args.b.now) c.args.row (ap (λ (s : Size). s.cols) c.requires.size) c.as_slice.result.now c.as_slice-2.result.now
+    (c.as_slice.ensures.value ∙ c.in_ok-cols.ensures) (c.as_slice-2.ensures.value ∙ c.in_ok-others.ensures) (lists_differ c.as_slice.result.now c.as_slice-2.result.now c.if-ne.ensures)
+
+pub same_among-requires-clause-within : goal.same_among-requires-clause-within
+same_among-requires-clause-within c =
+    subst (λ (cols : List ℕ). (k : ℕ) → k < length cols → slice_index cols k < length (placed_in c.args.a.now).cols) (sym c.as_slice-3.ensures.value)
+    (listed_within (placed_in c.args.a.now) (placed_in c.args.b.now) c.args.row (ap (λ (s : Size). s.cols) c.requires.size) c.in_ok-cols.cols.items c.in_ok-cols.ensures)
 
 pub returns : goal.returns
 returns c =
-    all_cells (placed_in c.args.a.now) (placed_in c.args.b.now) c.args.row c.loop-col.col
-    (subst (λ (s : Size). s.cols ≤ c.loop-col.col) c.size-col-end.ensures.size c.loop-col-test.false) c.loop-col.invariant
+    by_occupied (placed_in c.args.a.now) (placed_in c.args.b.now) c.args.row (ap (λ (s : Size). s.cols) c.requires.size) c.as_slice-3.result.now c.as_slice-2.result.now
+    (c.as_slice-3.ensures.value ∙ c.in_ok-cols.ensures) (c.as_slice-2.ensures.value ∙ c.in_ok-others.ensures)
+    (c.as_slice-3.ensures.value ∙ (sym c.as_slice.ensures.value ∙ lists_equal c.as_slice.result.now c.as_slice-2.result.now c.if-ne.ensures)) c.same_among.result c.same_among.ensures

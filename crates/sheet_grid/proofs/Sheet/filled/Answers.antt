@@ -1,4 +1,4 @@
-use Rattle.std.proofs.Common.{◌≡◌, ◌<◌, ◌∙◌, ℕ, List, length, ap, subst, arith}
+use Rattle.std.proofs.Common.{◌≡◌, ◌∙◌, ℕ, List, ap, subst, arith}
 use Rattle.std.specs.Prelude.{filter, is_some, slice_index_or, IfOk}
 use Rattle.std.specs.BTreeMap.{BTreeMap}
 use Rattle.sheet_ops.specs.declared.content.Content.{Content}

@@ -1,4 +1,4 @@
-use Rattle.std.proofs.Common.{◌≡◌, ◌∙◌, ap, subst, arith, List, Bool, Some}
+use Rattle.std.proofs.Common.{◌≡◌, subst, arith, List, Bool, Some}
 use Rattle.std.specs.Prelude.{slice_get}
 use Rattle.sheet_grid.proofs.PositionReads.{row_places, row_marks}
 use Rattle.sheet_grid.proofs.Sheet.is_row_marked.Goals as goal

@@ -1,4 +1,4 @@
-use Rattle.std.proofs.Common.{◌≡◌, ◌<◌, ◌≤◌, ℕ, ◌∙◌, ap, sym, subst, Option, length}
+use Rattle.std.proofs.Common.{◌≡◌, ◌<◌, ◌≤◌, ℕ, sym, subst, length}
 use Rattle.std.specs.Prelude.{◌↔◌, slice_index, IfSome, IsNone}
 use Rattle.sheet_grid.specs.Values.{NumberedSheet, placed_in}
 use Rattle.sheet_grid.proofs.PositionReads.{row_places}

@@ -5,7 +5,6 @@ use Rattle.sheet_ops.specs.declared.content.Content.{Content}
 use Rattle.sheet_ops.specs.declared.content.Content.TheVariants as content
 use Rattle.sheet_grid.specs.Cells.{formula_of}
 use Rattle.sheet_grid.specs.Kept.{held, cell_kept}
-use Rattle.sheet_grid.specs.Values.{stored_at}
 use Rattle.sheet_grid.proofs.TidySheets.{Maps}
 use Rattle.sheet_grid.proofs.PositionReads.{stored_read, map_read}
 use Rattle.sheet_grid.proofs.Sheet.stored.Goals as goal

@@ -10,15 +10,15 @@ puts_numbered-requires-clause-fit c = puts_fit c.self.inside.rows c.self.inside.
 pub write_puts-requires : goal.write_puts-requires
 write_puts-requires c =
     rw c.as_mut_slice.ensures.value
-    (in_rows c.self.inside.rows c.self.inside.cols c.self.inside.cells.items c.self.invariant c.deref.result.now
-    (numbered_fit c.self.inside.rows c.self.inside.cols c.self.inside.cells.items c.self.invariant c.args.self.now c.self.view_is c.args.puts.now c.deref.result.now c.requires (c.deref.ensures.value ∙ c.in_ok-numbered.ensures.value)))
+    (in_rows c.self.inside.rows c.self.inside.cols c.self.inside.cells.items c.self.invariant c.in_ok-numbered.numbered.items
+    (numbered_fit c.self.inside.rows c.self.inside.cols c.self.inside.cells.items c.self.invariant c.args.self.now c.self.view_is c.args.puts.now c.in_ok-numbered.numbered.items c.requires c.in_ok-numbered.ensures.value))
 
 pub invariant_of-self : goal.invariant_of-self
 invariant_of-self c =
     rw (whole_front c.write_puts.new.rows (drop (length c.write_puts.new.rows) c.self.inside.cells.items) c.self.inside.cells.len (omega arith))
     (written c.self.inside.rows c.self.inside.cols c.as_mut_slice.result.now (rw c.as_mut_slice.ensures.value c.self.invariant) c.args.self.now
     (ap (λ (maps : Maps). numbered_sheet_of c.self.inside.rows c.self.inside.cols maps) c.as_mut_slice.ensures.value ∙ c.self.view_is)
-    c.write_puts.result c.write_puts.new.rows c.args.puts.now c.deref.result.now c.requires (c.deref.ensures.value ∙ c.in_ok-numbered.ensures.value) (omega arith)
+    c.write_puts.result c.write_puts.new.rows c.args.puts.now c.in_ok-numbered.numbered.items c.requires c.in_ok-numbered.ensures.value (omega arith)
     c.write_puts.ensures.ok c.write_puts.ensures.empties c.write_puts.ensures.err).0
 
 pub returns-clause-ok : goal.returns-clause-ok
@@ -26,7 +26,7 @@ returns-clause-ok c =
     rw (whole_front c.write_puts.new.rows (drop (length c.write_puts.new.rows) c.self.inside.cells.items) c.self.inside.cells.len (omega arith))
     (written c.self.inside.rows c.self.inside.cols c.as_mut_slice.result.now (rw c.as_mut_slice.ensures.value c.self.invariant) c.args.self.now
     (ap (λ (maps : Maps). numbered_sheet_of c.self.inside.rows c.self.inside.cols maps) c.as_mut_slice.ensures.value ∙ c.self.view_is)
-    c.write_puts.result c.write_puts.new.rows c.args.puts.now c.deref.result.now c.requires (c.deref.ensures.value ∙ c.in_ok-numbered.ensures.value) (omega arith)
+    c.write_puts.result c.write_puts.new.rows c.args.puts.now c.in_ok-numbered.numbered.items c.requires c.in_ok-numbered.ensures.value (omega arith)
     c.write_puts.ensures.ok c.write_puts.ensures.empties c.write_puts.ensures.err).1
 
 pub returns-clause-err : goal.returns-clause-err
@@ -34,5 +34,5 @@ returns-clause-err c =
     rw (whole_front c.write_puts.new.rows (drop (length c.write_puts.new.rows) c.self.inside.cells.items) c.self.inside.cells.len (omega arith))
     (written c.self.inside.rows c.self.inside.cols c.as_mut_slice.result.now (rw c.as_mut_slice.ensures.value c.self.invariant) c.args.self.now
     (ap (λ (maps : Maps). numbered_sheet_of c.self.inside.rows c.self.inside.cols maps) c.as_mut_slice.ensures.value ∙ c.self.view_is)
-    c.write_puts.result c.write_puts.new.rows c.args.puts.now c.deref.result.now c.requires (c.deref.ensures.value ∙ c.in_ok-numbered.ensures.value) (omega arith)
+    c.write_puts.result c.write_puts.new.rows c.args.puts.now c.in_ok-numbered.numbered.items c.requires c.in_ok-numbered.ensures.value (omega arith)
     c.write_puts.ensures.ok c.write_puts.ensures.empties c.write_puts.ensures.err).2

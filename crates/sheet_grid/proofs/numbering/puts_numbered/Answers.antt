@@ -18,6 +18,6 @@ loop-put-preserved c =
     let put = c.put-item.result in
     let numbered : ◌≡◌ {A = Put} (record { row = c.rec_number.result; col = c.rec_number-in-loop-put.result; content = c.in_ok-content.content }) (put_numbered c.args.rows.now c.args.cols.now put) = λ i. record { row = c.rec_number.ensures.number i; col = c.rec_number-in-loop-put.ensures.number i; content = c.in_ok-content.ensures.value i } in
     record {
-      value = c.in_ok-push.ensures.items ∙ put_more c.args.rows.now c.args.cols.now c.args.puts.now c.loop-put.put-index put _ c.loop-put-test.true c.put-item.is numbered c.loop-put.numbered.items c.loop-put.invariant.value;
+      value = c.in_ok-push_back.ensures.items ∙ put_more c.args.rows.now c.args.cols.now c.args.puts.now c.loop-put.put-index put _ c.loop-put-test.true c.put-item.is numbered c.loop-put.numbered.items c.loop-put.invariant.value;
       ordered = ordered_more c.args.puts.now c.loop-put.put-index put c.loop-put-test.true c.put-item.is c.in_ok-content.ensures.ordered c.loop-put.invariant.ordered;
     }

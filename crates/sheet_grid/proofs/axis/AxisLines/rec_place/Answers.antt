@@ -1,4 +1,4 @@
-use Rattle.std.proofs.Common.{◌≡◌, ◌<◌, ◌≤◌, ◌∙◌, ℕ, ap, sym, subst, length}
+use Rattle.std.proofs.Common.{◌≡◌, ◌<◌, ◌≤◌, ◌∙◌, ℕ, ap, subst, length}
 use Rattle.std.specs.Prelude.{◌↔◌, slice_index, IfSome, IsNone}
 use Rattle.sheet_grid.specs.Kept.{NumberedAxis}
 use Rattle.sheet_grid.specs.Numbering.{place_of_rec}

@@ -1,5 +1,4 @@
-use Rattle.std.proofs.Common.{◌≡◌, ◌<◌, ◌≤◌, ◌∙◌, ℕ, ap, sym, subst, length}
-use Rattle.std.specs.Prelude.{◌↔◌, slice_index, IfSome, IsNone}
+use Rattle.std.proofs.Common.{◌∙◌, ap}
 use Rattle.sheet_grid.specs.Kept.{NumberedAxis}
 use Rattle.sheet_grid.specs.Numbering.{place_of_slot}
 use Rattle.sheet_grid.proofs.NumberPlaces.{slot_place-is}

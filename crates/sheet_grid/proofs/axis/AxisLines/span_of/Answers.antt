@@ -1,9 +1,9 @@
-use Rattle.std.proofs.Common.{◌≡◌, ◌<◌, ◌≤◌, ◌∙◌, ℕ, suc, ap, sym, subst, length, arith, Option}
+use Rattle.std.proofs.Common.{◌≡◌, ◌<◌, ◌∙◌, ℕ, suc, ap, sym, subst, length, arith, Option}
 use Rattle.std.specs.Prelude.{IfSome}
 use Rattle.marked_lines.specs.Marks.{visible_before, span_of}
 use Rattle.sheet_grid.specs.Kept.{NumberedAxis}
 use Rattle.sheet_grid.proofs.NumberPlaces.{marks_few, marks_count}
-use Rattle.sheet_grid.proofs.Spans.{span_turned, span_past, span_few, span_ended, end_within, end_order}
+use Rattle.sheet_grid.proofs.Spans.{span_turned, span_past, span_few, span_ended, end_within}
 use Rattle.sheet_grid.proofs.axis.AxisLines.span_of.Goals as goal
 
 pub returns-then-last-first-clause-value : goal.returns-then-last-first-clause-value

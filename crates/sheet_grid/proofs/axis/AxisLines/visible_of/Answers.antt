@@ -1,4 +1,4 @@
-use Rattle.std.proofs.Common.{◌≡◌, ◌<◌, ◌≤◌, ◌∙◌, ℕ, ap, sym, subst, length, arith, Option}
+use Rattle.std.proofs.Common.{◌<◌, ℕ, sym, subst, arith, Option}
 use Rattle.std.specs.Prelude.{IfSome}
 use Rattle.sheet_grid.proofs.NumberPlaces.{marks_few, marks_count}
 use Rattle.sheet_grid.proofs.Spans.{visible_of-past, visible_few}
