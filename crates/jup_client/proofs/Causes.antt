@@ -1,6 +1,6 @@
 -- Why a client refuses a message: at most one cause holds.
-use Rattle.std.proofs.Common.{◌≡◌, ℕ, ◌<◌, ◌≤◌, List, [], ◌∷◌, refl, ap, sym, ◌∙◌, subst, arith, inl, inr, Option, None, Some, Ok, Err}
-use Rattle.std.specs.Prelude.{◌⊎◌, ◌↔◌, Result, OnOk, OnErr, IfErr, MatchResult}
+use Rattle.std.proofs.Common.{◌≡◌, ℕ, List, [], ◌∷◌, refl, ap, sym, ◌∙◌, subst, arith, inl, inr, Option, None, Some, Ok, Err}
+use Rattle.std.specs.Prelude.{◌↔◌, Result, OnOk, OnErr, IfErr, MatchResult}
 use Rattle.ss_base.specs.declared.types.Size.{Size}
 use Rattle.sheet_ops.specs.declared.operation.Effect.{Effect}
 use Rattle.sheet_ops.specs.declared.operation.Intent.{Intent}

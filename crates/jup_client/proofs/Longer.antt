@@ -1,16 +1,15 @@
 -- A client beside a longer history, and what it may send.
-use Rattle.std.proofs.Common.{◌≡◌, ℕ, suc, ◌+◌, ◌<◌, ◌≤◌, List, [], ◌∷◌, ◌++◌, length, ap, sym, ◌∙◌, subst, append_assoc, arith, inl}
+use Rattle.std.proofs.Common.{◌≡◌, ℕ, ◌+◌, ◌<◌, ◌≤◌, List, [], ◌∷◌, ◌++◌, ap, sym, ◌∙◌, subst, append_assoc, arith, inl}
 use Rattle.std.specs.Prelude.{nat_eq, reverse}
-use Rattle.std.proofs.lemmas.List.{append-nil, reverse-append, length-reverse, length-append}
+use Rattle.std.proofs.lemmas.List.{append-nil, reverse-append}
 use Rattle.std.proofs.lemmas.List.Elements.{filter-append}
 use Rattle.ss_base.specs.declared.types.Size.{Size}
 use Rattle.ss_base.specs.Lists.{IsPrefixOf}
 use Rattle.sheet_ops.specs.declared.operation.Entry.{Entry}
 use Rattle.sheet_ops.specs.Naming.{operations_of}
 use Rattle.sheet_ops.specs.Placed.{size_of}
-use Rattle.sheet_ops.specs.Identity.{IdSheet}
 use Rattle.sheet_ops.specs.Fits.{IntentFits}
-use Rattle.sheet_ops.specs.History.{own_entries, operations, view_of, resolved, SeenRises, EachFits, MayFollow, EachFollows, IsValidHistory}
+use Rattle.sheet_ops.specs.History.{own_entries, operations, view_of, resolved, SeenRises, EachFits, IsValidHistory}
 use Rattle.sheet_ops.specs.Represents.{last_seen, view_at, ClientState, ClientRepresents}
 use Rattle.sheet_ops.proofs.Continued.{continued}
 use Rattle.sheet_ops.proofs.Counts.{operations-append, operations-cons}

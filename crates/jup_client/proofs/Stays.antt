@@ -1,22 +1,22 @@
 -- What a client represents after each of its calls.
-use Rattle.std.proofs.Common.{◌≡◌, ℕ, zero, suc, ◌+◌, ◌-◌, ◌<◌, ◌≤◌, Bool, true, false, cond, List, [], ◌∷◌, ◌++◌, length, take, drop, get_or, refl, ap, sym, ◌∙◌, subst, arith, append_assoc, inl, inr}
-use Rattle.std.specs.Prelude.{◌⊎◌, ◌^◌, min, if◌then◌else◌, nat_eq, reverse, slice_index_or, unwrap_or}
+use Rattle.std.proofs.Common.{◌≡◌, ℕ, suc, ◌+◌, ◌-◌, ◌<◌, ◌≤◌, Bool, true, false, List, [], ◌∷◌, ◌++◌, length, take, drop, get_or, refl, ap, sym, ◌∙◌, subst, arith, inl}
+use Rattle.std.specs.Prelude.{◌^◌, min, if◌then◌else◌, reverse}
 use Rattle.std.proofs.Math.Nat.{min-eq_left}
-use Rattle.std.proofs.lemmas.List.{reverse-append, length-append, length-take-le, length-reverse, reverse-reverse, take_at}
+use Rattle.std.proofs.lemmas.List.{reverse-append, length-append, length-take-le, length-reverse, take_at}
 use Rattle.ss_base.specs.declared.types.Size.{Size}
 use Rattle.ss_base.specs.Lists.{IsPrefixOf}
 use Rattle.sheet_ops.specs.declared.operation.Entry.{Entry}
 use Rattle.sheet_ops.specs.declared.operation.Intent.{Intent}
 use Rattle.sheet_ops.specs.declared.operation.Effect.{Effect}
-use Rattle.sheet_ops.specs.LineIds.{LineId, operation_id, operation_ids}
-use Rattle.sheet_ops.specs.Identity.{IdOp, IdSheet, opened}
-use Rattle.sheet_ops.specs.Naming.{operations_of, operations_in, resolve, locate, step, effect_of_intent}
+use Rattle.sheet_ops.specs.LineIds.{LineId, operation_id}
+use Rattle.sheet_ops.specs.Identity.{IdSheet, opened}
+use Rattle.sheet_ops.specs.Naming.{operations_of, operations_in, resolve, locate, effect_of_intent}
 use Rattle.sheet_ops.specs.Placed.{PlacedSheet, placed, placed_size, size_of}
-use Rattle.sheet_ops.specs.Fits.{IntentFits, EffectFits, IsWellFormed, EachNew}
+use Rattle.sheet_ops.specs.Fits.{IntentFits, EffectFits, EachNew}
 use Rattle.sheet_ops.specs.Effects.{effect_on, StepsTo}
 use Rattle.sheet_ops.specs.Chains.{size_past, size_after, Leads, EachFitsAfter, PassesOwn}
 use Rattle.sheet_ops.specs.History.{own_entries, operations, entry_ids, view_of, resolved, view, sheet_of, SeenRises, IsValidHistory}
-use Rattle.sheet_ops.specs.Represents.{pending_of, sheet_at, view_at, ClientState, ClientRepresents, entry_at, is_own, ids_at}
+use Rattle.sheet_ops.specs.Represents.{pending_of, sheet_at, ClientState, ClientRepresents, entry_at, is_own, ids_at}
 use Rattle.sheet_ops.specs.Published.{effect_at}
 use Rattle.sheet_ops.proofs.Ids.{same_number, length-opening_lines}
 use Rattle.sheet_ops.proofs.Again.{length-operation_ids, as_many_effects}
@@ -32,10 +32,10 @@ use Rattle.sheet_ops.proofs.Prefixes.{split_at, take_suc, own_held, own_prefix}
 use Rattle.sheet_ops.proofs.Sizes.{size_placed, grows, effect_none}
 use Rattle.sheet_ops.proofs.Published.{v, valid_before, seen_within, seen_later, sheet_here, effect_here, leads_here, published_leads}
 use Rattle.sheet_ops.proofs.Acknowledged.{view_stays, pending_stays, seen_same, count, held}
-use Rattle.sheet_ops.proofs.Taken.{EachSound, taken_other, edited}
+use Rattle.sheet_ops.proofs.Taken.{taken_other, edited}
 use Rattle.jup_client.specs.declared.Down.{Down}
 use Rattle.jup_client.specs.declared.Down.TheVariants as message
-use Rattle.jup_client.specs.Clients.{IsSmall, IsClient, down_at, own_entry, one_more, down_misfit, base_past, AcceptsMessage, IsTaken}
+use Rattle.jup_client.specs.Clients.{IsSmall, IsClient, down_at, own_entry, one_more, AcceptsMessage, IsTaken}
 use Rattle.jup_client.proofs.Causes.{admitted_own, admitted_other}
 use Rattle.jup_client.proofs.OnePassed.{fits_more, sized_more}
 

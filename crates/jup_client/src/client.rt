@@ -201,8 +201,8 @@ impl Client {
         }
     }
 
-    /// An entry of its own is in the history.
-    fn take_own(&mut self) -> Result<(), TakeErr>
+    /// The first pending operation is pending no more.
+    fn drop_first(&mut self) -> Result<(), TakeErr>
         ensures stood { IsClient self.old }
         ensures cause { MatchResult result (λ _. AcceptsMessage self.old message.Own) (IsCause self.old message.Own) }
         ensures done { OnOk result (IsTaken self.old message.Own self.new) }
@@ -236,8 +236,8 @@ impl Client {
         Ok(base)
     }
 
-    /// What another's entry does is done.
-    fn take_other(&mut self, effect: &Effect) -> Result<(), TakeErr>
+    /// What another's entry does is done, past what is pending.
+    fn do_other(&mut self, effect: &Effect) -> Result<(), TakeErr>
         ensures stood { IsClient self.old }
         ensures cause { MatchResult result (λ _. AcceptsMessage self.old (message.Other effect.now)) (IsCause self.old (message.Other effect.now)) }
         ensures done { OnOk result ((taken : IsTaken self.old (message.Other effect.now) self.new) × StepsTo self.old.sheet taken.0 self.new.sheet) }
@@ -252,13 +252,39 @@ impl Client {
         Ok(())
     }
 
-    /// Takes what it is sent for the next entry of the history. A refused call leaves the client. It
-    /// takes a comparison for each pending operation that leaves the effect and is left by it, as writes
-    /// of other cells do, a transform for each other one, and then the time of doing the effect on the
-    /// sheet; with none pending the effect is done as it came. In order, `NotMine` comes exactly for an
-    /// own entry with nothing pending, `BadPlace` exactly where the effect doesn't fit the base size, and
-    /// `TooBig` exactly where the base size afterwards would have more than 9,000 rows or 8,064 columns;
-    /// none of them comes to the client of a server's site.
+    /// Takes an own entry, the next one of the history. A refused call leaves the client. It takes
+    /// constant time and no memory. In order, `NotMine` comes exactly with nothing pending, and `TooBig`
+    /// exactly where the base size afterwards would have more than 9,000 rows or 8,064 columns; neither
+    /// comes to the client of a server's site.
+    pub fn take_own(&mut self) -> Result<(), TakeErr>
+        ensures cause { (x : TakeErr) → (x ≡ fault.Memory → ⊥) → ((result ≡ Err x) ↔ RefusesMessage self.old message.Own x) }
+        ensures done { OnOk result (IsTaken self.old message.Own self.new) }
+        ensures represents { (sites : ℕ) (H G : List Entry) → sites ≤ 8 → IsValidHistory self.old.size sites H → ClientRepresents self.old H G → self.old.taken < length H →
+            IsPrefixOf (own_entries self.old.site H) G → message.Own ≡ down_at self.old.size H self.old.site self.old.taken → MatchResult result (λ _. ClientRepresents self.new H G) (λ x. x ≡ fault.Memory) }
+        ensures err { OnErr result (self.new ≡ self.old) }
+    {
+        self.drop_first()
+    }
+
+    /// Takes what another's entry, the next one of the history, does to the sheet after the entries before
+    /// it. A refused call leaves the client. It takes a comparison for each pending operation that leaves
+    /// the effect and is left by it, as writes of other cells do, a transform for each other one, and then
+    /// the time of doing the effect on the sheet; with none pending the effect is done as it came. In
+    /// order, `BadPlace` comes exactly where the effect doesn't fit the base size, and `TooBig` as for an
+    /// own entry; neither comes to the client of a server's site.
+    pub fn take_other(&mut self, effect: &Effect) -> Result<(), TakeErr>
+        ensures cause { (x : TakeErr) → (x ≡ fault.Memory → ⊥) → ((result ≡ Err x) ↔ RefusesMessage self.old (message.Other effect.now) x) }
+        ensures done { OnOk result (IsTaken self.old (message.Other effect.now) self.new) }
+        ensures represents { (sites : ℕ) (H G : List Entry) → sites ≤ 8 → IsValidHistory self.old.size sites H → ClientRepresents self.old H G → self.old.taken < length H →
+            IsPrefixOf (own_entries self.old.site H) G → message.Other effect.now ≡ down_at self.old.size H self.old.site self.old.taken →
+            MatchResult result (λ _. ClientRepresents self.new H G) (λ x. x ≡ fault.Memory) }
+        ensures err { OnErr result (self.new ≡ self.old) }
+    {
+        self.do_other(effect)
+    }
+
+    /// Takes what it is sent for the next entry of the history, as [`take_own`](Client::take_own) or
+    /// [`take_other`](Client::take_other) does.
     pub fn take(&mut self, down: &Down) -> Result<(), TakeErr>
         ensures cause { (x : TakeErr) → (x ≡ fault.Memory → ⊥) → ((result ≡ Err x) ↔ RefusesMessage self.old down.now x) }
         ensures done { OnOk result (IsTaken self.old down.now self.new) }

@@ -18,6 +18,3 @@ pub enum Down {
     /// What another's entry does to the sheet after the entries before it, by positions.
     Other(Effect),
 }
-
-#[cfg(test)]
-mod tests;

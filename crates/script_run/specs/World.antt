@@ -1,10 +1,9 @@
 -- The state of a run: one history, and what each site has. One command is one step of it.
-use Rattle.std.specs.Prelude.{ℕ, zero, suc, ◌+◌, ◌-◌, min, max, nat_lt, if◌then◌else◌, List, [], ◌∷◌, ◌++◌, length, take, drop, Option, Some, None, Result, Ok, Err, slice_index_or, slice_set, position, unwrap_or}
+use Rattle.std.specs.Prelude.{ℕ, zero, suc, ◌+◌, ◌-◌, min, max, List, [], ◌∷◌, ◌++◌, length, take, drop, Option, Some, None, Result, Ok, Err, slice_index_or, slice_set, position, unwrap_or}
 use Rattle.std.specs.Str.{bytes_eq}
 use Rattle.ss_base.specs.declared.types.Size.{Size}
 use Rattle.sheet_ops.specs.declared.edit.Edit.{Edit}
 use Rattle.sheet_ops.specs.declared.edit.EditErr.{EditErr}
-use Rattle.sheet_ops.specs.declared.edit.EditErr.TheVariants as fault
 use Rattle.sheet_ops.specs.declared.operation.Entry.{Entry}
 use Rattle.sheet_ops.specs.declared.operation.Intent.{Intent}
 use Rattle.sheet_ops.specs.Identity.{IdSheet}

@@ -1,18 +1,16 @@
-ghost use Rattle.std.specs.Prelude.{◌≡◌, ◌≤◌, ◌<◌, ◌+◌, ◌++◌, ◌^◌, ℕ, suc, List, [], ◌∷◌, length, take, slice_get, Some, IfOk, OnOk, OnErr};
-ghost use Rattle.ss_base.specs.declared.types.Size.{Size};
+ghost use Rattle.std.specs.Prelude.{◌≡◌, ◌≤◌, ◌<◌, ◌+◌, ◌++◌, ◌^◌, ℕ, suc, List, [], ◌∷◌, length, take, slice_get, Some, IfOk, OnOk, OnErr, MatchResult};
 ghost use Rattle.ss_base.specs.Lists.{IsPrefixOf};
 ghost use Rattle.sheet_ops.specs.declared.operation.Entry.{Entry};
 ghost use Rattle.sheet_ops.specs.History.{own_entries};
-ghost use Rattle.sheet_ops.specs.Represents.{ClientRepresents, ServerRepresents};
+ghost use Rattle.sheet_ops.specs.Represents.{ClientRepresents, ServerRepresents, is_own};
 ghost use Rattle.sheet_ops.specs.Published.{effect_at};
-ghost use Rattle.jup_client.specs.Clients.{down_at};
+ghost use Rattle.jup_client.specs.Clients.{down_at, IsTaken};
 ghost use Rattle.jup_client.specs.declared.client.TakeErr.TheVariants as take_fault;
 ghost use Rattle.jup_server.specs.declared.SubmitErr.TheVariants as submit_fault;
-ghost use Rattle.script_run.specs.Runs.{AreEffectsOf};
 ghost use Rattle.script_run.specs.Deliveries.{MaySubmit, MayPull};
 
 use crate::seat::Seat;
-use jup_client::{Client, Down, TakeErr};
+use jup_client::{Client, TakeErr};
 use jup_server::{Server, SubmitErr};
 use sheet_ops::{Effect, Entry, Up};
 use ss_base::{Memory, Site};
@@ -70,16 +68,33 @@ fn untaken(err: TakeErr) -> Memory
     }
 }
 
-/// What a site is sent for the entry at a place of the history.
-fn message(history: &[Entry], effects: &[Effect], site: Site, place: usize) -> Result<Down, Memory>
-    requires place { place < length history.now }
-    requires effects { length effects.now ≡ length history.now }
-    ensures { (size : Size) → AreEffectsOf size history.now effects.now → IfOk result (λ d. d ≡ down_at size history.now site.0 place) }
+/// Whether the entry at a place of the history is a site's own.
+fn is_own(history: &[Entry], site: Site, place: usize) -> bool
+    requires { place < length history.now }
+    ensures { result ≡ is_own history.now site.0 place }
 {
-    if history[place].site == site {
-        Ok(Down::Own)
+    history[place].site == site
+}
+
+/// The client of a site takes what the next entry of the history is to it. A refused call leaves the
+/// client.
+fn take_next(
+    client: &mut Client,
+    site: Site,
+    history: &[Entry],
+    effects: &[Effect],
+) -> Result<(), TakeErr>
+    requires { MayPull client.old site.0 history.now effects.now }
+    ensures represents { (G : List Entry) → ClientRepresents client.old history.now G → IsPrefixOf (own_entries site.0 history.now) G →
+        MatchResult result (λ _. ClientRepresents client.new history.now G) (λ x. x ≡ take_fault.Memory) }
+    ensures taken { OnOk result (IsTaken client.old (down_at client.old.size history.now site.0 client.old.taken) client.new) }
+    ensures err { OnErr result (client.new ≡ client.old) }
+{
+    let place = client.taken() as usize;
+    if is_own(history, site, place) {
+        client.take_own()
     } else {
-        Ok(Down::Other(effects[place].copy()?))
+        client.take_other(&effects[place])
     }
 }
 
@@ -97,8 +112,7 @@ pub fn deliver(
     ensures counts { OnOk result ((client.new.site ≡ client.old.site) × (client.new.size ≡ client.old.size) × (client.new.taken ≡ client.old.taken + 1)) }
     ensures err { OnErr result (client.new ≡ client.old) }
 {
-    let down = message(history, effects, site, client.taken() as usize)?;
-    match client.take(&down) {
+    match take_next(client, site, history, effects) {
         Ok(()) => Ok(()),
         Err(err) => Err(untaken(err)),
     }

@@ -1,10 +1,9 @@
-use Rattle.std.proofs.Common.{◌≡◌, ap, sym, ◌∙◌, subst}
+use Rattle.std.proofs.Common.{ap, sym, ◌∙◌, subst}
 use Rattle.sheet_ops.specs.declared.operation.Effect.{Effect}
-use Rattle.sheet_ops.specs.Naming.{effect_of_intent}
-use Rattle.sheet_ops.specs.Placed.{PlacedSheet, placed_size}
+use Rattle.sheet_ops.specs.Placed.{placed_size}
 use Rattle.sheet_ops.specs.Chains.{size_past}
 use Rattle.sheet_ops.specs.Fits.{EffectFits}
-use Rattle.sheet_ops.specs.Effects.{effect_on, StepsTo}
+use Rattle.sheet_ops.specs.Effects.{effect_on}
 use Rattle.sheet_ops.proofs.Again.{own_effect_fits}
 use Rattle.sheet_ops.proofs.Sizes.{size_on}
 use Rattle.sheet_ops.proofs.Sizes.{room_for}

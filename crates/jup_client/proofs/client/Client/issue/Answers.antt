@@ -1,4 +1,4 @@
-use Rattle.std.proofs.Common.{◌≡◌, ap, arith}
+use Rattle.std.proofs.Common.{ap, arith}
 use Rattle.sheet_grid.specs.Values.{placed_in}
 use Rattle.jup_client.proofs.Stays.{edit_at, has_room, unchanged, popped}
 use Rattle.jup_client.proofs.client.Client.issue.Goals as goal

@@ -1,8 +1,3 @@
-use Rattle.std.proofs.Common.{◌≡◌, ℕ, List, arith, ap, sym, ◌∙◌, refl, inl, [], ◌∷◌}
-use Rattle.sheet_ops.specs.declared.operation.Intent.{Intent}
-use Rattle.sheet_ops.specs.Identity.{opened}
-use Rattle.sheet_ops.specs.Placed.{PlacedSheet, placed, placed_size}
-use Rattle.sheet_ops.specs.Represents.{ClientState, ClientRepresents}
 use Rattle.sheet_grid.specs.Values.{placed_in}
 use Rattle.jup_client.proofs.Stays.{new_client, new_represents}
 use Rattle.jup_client.proofs.client.Client.new.Goals as goal

@@ -1,20 +1,18 @@
-use Rattle.std.proofs.Common.{◌≡◌, refl, List, [], ◌∷◌, drop, ap, sym, ◌∙◌, arith}
-use Rattle.sheet_ops.specs.declared.operation.Intent.{Intent}
-use Rattle.jup_client.proofs.Stays.{split_first, own_client, own_state}
+use Rattle.std.proofs.Common.{◌≡◌}
+use Rattle.std.proofs.lemmas.Result.{on_ok_weaker}
+use Rattle.jup_client.specs.declared.Down.TheVariants as message
+use Rattle.sheet_ops.specs.Represents.{ClientRepresents}
+use Rattle.jup_client.specs.declared.client.TakeErr.TheVariants as fault
+use Rattle.jup_client.proofs.Causes.{exact, memory_alone, either}
+use Rattle.jup_client.proofs.Stays.{sent_admitted, own_taken}
 use Rattle.jup_client.proofs.client.Client.take_own.Goals as goal
 
-pub invariant_of-self : goal.invariant_of-self
-invariant_of-self c =
-    let xs = c.self.inside.pending.items in
-    let first = c.in-Some.first.now in
-    let split : xs ≡ first ∷ c.pop_front.new.self.items =
-    split_first xs first (omega (arith, c.in-Some.ensures.variant.0 refl, c.self.inside.pending.ok)) c.in-Some.ensures.lookup ∙ ap (λ (ys : List Intent). first ∷ ys) (sym c.pop_front.ensures.rest) in
-    own_client _ c.self.invariant first c.pop_front.new.self.items split c.size_past_own-base.result c.size_past_own-base.ensures c.if-is_big.ensures _
+pub returns-clause-cause : goal.returns-clause-cause
+returns-clause-cause c x apart = exact c.args.self.now c.drop_first.ensures.stood message.Own c.drop_first.result c.drop_first.ensures.cause x apart
 
-pub returns-clause-done : goal.returns-clause-done
-returns-clause-done c =
-    let xs = c.self.inside.pending.items in
-    let first = c.in-Some.first.now in
-    let split : xs ≡ first ∷ c.pop_front.new.self.items =
-    split_first xs first (omega (arith, c.in-Some.ensures.variant.0 refl, c.self.inside.pending.ok)) c.in-Some.ensures.lookup ∙ ap (λ (ys : List Intent). first ∷ ys) (sym c.pop_front.ensures.rest) in
-    own_state _ c.args.self.now c.self.view_is first c.pop_front.new.self.items split c.size_past_own-base.result c.size_past_own-base.ensures _ c.saturating_add-self-inside.ensures
+pub returns-clause-represents : goal.returns-clause-represents
+returns-clause-represents c sites H G few valid r more front sent =
+    let ok = c.drop_first.ensures.stood in
+    either (ClientRepresents c.drop_first.new.self H G) (λ x. x ≡ fault.Memory) c.drop_first.result
+    (on_ok_weaker c.drop_first.result (λ taken. own_taken c.args.self.now ok sites H G few valid r more front c.drop_first.new.self taken sent) c.drop_first.ensures.done)
+    (memory_alone c.args.self.now message.Own c.drop_first.result c.drop_first.ensures.cause (sent_admitted c.args.self.now ok sites H G few valid r more front message.Own sent))
