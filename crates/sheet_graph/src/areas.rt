@@ -4,15 +4,19 @@ ghost use Rattle.sheet_graph.specs.Columns.{in_column, left_in_area, left_in_are
 
 use crate::columns::Column;
 use cell_walk::{Interval, Progress};
+use smallvec::SmallVec;
 
 /// A rectangle of cells by visible indexes: its first row and column, and those behind its last ones.
-#[derive(Clone, Copy, Debug)]
+#[derive(Clone, Copy, Debug, Default)]
 pub struct Area {
     pub top: u32,
     pub left: u32,
     pub bottom: u32,
     pub right: u32,
 }
+
+/// The areas that a formula refers to: most have one or two, which take no allocation.
+pub type Areas = SmallVec<Area, 2>;
 
 /// The cells of an area in a column, and `None` exactly where there are none.
 fn run_in_column(columns: &[Column], area: &Area, col: u32) -> Option<Interval>

@@ -8,7 +8,7 @@ ghost use Rattle.sheet_graph.specs.Filled.{HoldsRows};
 ghost use Rattle.sheet_graph.specs.Graphs.{areas_of, mentions_in, mentions_listed, mentions_left, number_set, HaveSameMembers, IsFoundAt, IsGraphTo, IsGraph};
 ghost use Rattle.sheet_graph.specs.Cursor.{all_left};
 
-use crate::areas::{Area, next_in_areas};
+use crate::areas::{Areas, next_in_areas};
 use crate::by_column::filled_rows;
 use crate::cells::formula_seen;
 use crate::columns::{Column, empty_columns};
@@ -25,7 +25,7 @@ pub struct Node<'a> {
     pub row: u32,
     pub col: u32,
     pub formula: StoredFormula<'a>,
-    pub areas: Vec<Area>,
+    pub areas: Areas,
 }
 
 /// The formula cells of a sheet under numbers from 0 on, column by column, and those of each visible
@@ -45,7 +45,7 @@ impl Mentions for Graph<'_> {
 
     fn next(&self, cell: u32, place: Progress) -> Option<(Interval, Progress)> {
         match self.nodes.get(cell as usize) {
-            Some(node) => next_in_areas(&self.columns, &node.areas, place),
+            Some(node) => next_in_areas(&self.columns, node.areas.as_slice(), place),
             None => None,
         }
     }
@@ -63,7 +63,7 @@ fn node_at<'a>(
     let Some(formula) = formula_seen(sheet, row, col) else {
         return Ok(None);
     };
-    let mut areas = Vec::new(alloc);
+    let mut areas = Areas::new(alloc);
     push_areas(&mut areas, sheet, formula.expr())?;
     Ok(Some(Node {
         row,

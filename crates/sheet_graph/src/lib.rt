@@ -10,7 +10,7 @@ mod placing;
 mod references;
 mod stored;
 
-pub use areas::Area;
+pub use areas::{Area, Areas};
 pub use cells::filled_in_row;
 pub use columns::{Column, FormulaCell};
 pub use graph::{Graph, Node, graph_of};

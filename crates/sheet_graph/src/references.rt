@@ -5,7 +5,7 @@ ghost use Rattle.sheet_grid.specs.Values.{placed_in};
 ghost use Rattle.sheet_graph.specs.Areas.{area_at, area_over};
 ghost use Rattle.sheet_graph.specs.Placing.{spot_placed, span_placed, stored_areas};
 
-use crate::areas::Area;
+use crate::areas::{Area, Areas};
 use crate::placing::{cell_placed, cols_placed, rows_placed};
 use formula_tree::Expr;
 use sheet_grid::Sheet;
@@ -43,7 +43,7 @@ fn area_over(sheet: &Sheet, span: &Span) -> Option<Area>
 }
 
 /// Appends an area, where there is one.
-fn push(areas: &mut Vec<Area>, area: Option<Area>) -> Result<(), Memory>
+fn push(areas: &mut Areas, area: Option<Area>) -> Result<(), Memory>
     ensures { OnOk result (areas.new.items ≡ areas.old.items ++ option_to_list area) }
 {
     if let Some(area) = area {
@@ -54,7 +54,7 @@ fn push(areas: &mut Vec<Area>, area: Option<Area>) -> Result<(), Memory>
 
 /// Appends the areas that a stored expression refers to, from left to right.
 #[cycle(refer)]
-pub(crate) fn push_areas(areas: &mut Vec<Area>, sheet: &Sheet, expr: &Expr) -> Result<(), Memory>
+pub(crate) fn push_areas(areas: &mut Areas, sheet: &Sheet, expr: &Expr) -> Result<(), Memory>
     ensures { OnOk result (areas.new.items ≡ areas.old.items ++ stored_areas sheet.now expr.now) }
 {
     match expr {
@@ -72,7 +72,7 @@ pub(crate) fn push_areas(areas: &mut Vec<Area>, sheet: &Sheet, expr: &Expr) -> R
 
 /// The same of several expressions.
 #[cycle(refer)]
-fn push_all(areas: &mut Vec<Area>, sheet: &Sheet, exprs: &[Expr]) -> Result<(), Memory>
+fn push_all(areas: &mut Areas, sheet: &Sheet, exprs: &[Expr]) -> Result<(), Memory>
     ensures { OnOk result (areas.new.items ≡ areas.old.items ++ flat_map (stored_areas sheet.now) exprs.now) }
 {
     for e in exprs {
