@@ -11,6 +11,3 @@
 mod walking;
 
 pub use walking::{Colour, Found, Interval, Mentions, Progress, walk_all, walk_new};
-
-#[cfg(test)]
-mod tests;

@@ -9,6 +9,3 @@ mod step;
 pub use code::Code;
 pub use compiling::compile;
 pub use step::Step;
-
-#[cfg(test)]
-mod tests;

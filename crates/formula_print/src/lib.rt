@@ -8,6 +8,3 @@ mod round_trip;
 pub use pieces::push_quoted;
 pub use printer::print;
 pub use round_trip::formulas_are_read_back;
-
-#[cfg(test)]
-mod tests;

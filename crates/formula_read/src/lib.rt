@@ -15,8 +15,6 @@ mod parsing;
 mod partial;
 mod stack;
 mod steps;
-#[cfg(test)]
-mod tests;
 mod tree;
 mod tree_err;
 

@@ -3,4 +3,18 @@
 #![tactic(auto)]
 
 #[cfg(test)]
+mod addresses;
+#[cfg(test)]
+mod code;
+#[cfg(test)]
+mod functions;
+#[cfg(test)]
+mod printing;
+#[cfg(test)]
 mod tests;
+#[cfg(test)]
+mod tokens;
+#[cfg(test)]
+mod trees;
+#[cfg(test)]
+mod values;

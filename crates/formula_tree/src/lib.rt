@@ -10,8 +10,6 @@ mod functions;
 mod measures;
 mod operators;
 mod renaming;
-#[cfg(test)]
-mod tests;
 
 pub use errors::error_name;
 pub use expression::Expr;

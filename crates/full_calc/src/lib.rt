@@ -10,6 +10,3 @@ mod whole;
 
 pub use uncounted::evaluated;
 pub use whole::values;
-
-#[cfg(test)]
-mod tests;

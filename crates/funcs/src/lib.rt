@@ -26,6 +26,3 @@ pub use calls::{
 };
 pub use number::{divisor, number_value, truth};
 pub use stop::answer;
-
-#[cfg(test)]
-mod tests;

@@ -4,4 +4,14 @@
 #![tactic(auto)]
 
 #[cfg(test)]
+mod lines;
+#[cfg(test)]
+mod operations;
+#[cfg(test)]
+mod sheets;
+#[cfg(test)]
 mod tests;
+#[cfg(test)]
+mod transforms;
+#[cfg(test)]
+mod walks;

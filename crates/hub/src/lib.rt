@@ -8,6 +8,3 @@ mod law;
 
 pub use hub::Hub;
 pub use law::hub_goes_to_threads;
-
-#[cfg(test)]
-mod tests;

@@ -42,6 +42,3 @@ impl From<Memory> for SubmitErr {
         SubmitErr::Memory
     }
 }
-
-#[cfg(test)]
-mod tests;

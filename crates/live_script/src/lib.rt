@@ -10,6 +10,3 @@ mod script;
 
 pub use read::read_live;
 pub use script::{Action, LiveScript, LiveStop, SiteLine, SiteScript};
-
-#[cfg(test)]
-mod tests;

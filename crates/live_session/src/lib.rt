@@ -11,6 +11,3 @@ mod takes;
 
 pub use law::session_goes_to_threads;
 pub use session::{Ended, Session};
-
-#[cfg(test)]
-mod tests;

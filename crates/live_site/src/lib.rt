@@ -7,6 +7,3 @@ mod run;
 mod work;
 
 pub use run::{SiteEnd, run_site};
-
-#[cfg(test)]
-mod tests;

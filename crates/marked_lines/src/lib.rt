@@ -9,6 +9,3 @@ mod places;
 
 pub use lines::{Lines, MOST_LINES};
 pub use perm::Perm;
-
-#[cfg(test)]
-mod tests;

@@ -22,9 +22,6 @@ pub use changes::{changed_or, leaves_both, note_change, replace_front, xform_cha
 use sheet_ops::{Effect, Intent};
 use ss_base::{Memory, Size};
 
-#[cfg(test)]
-mod tests;
-
 /// The own operation to be done after the other's effect, and that effect to be done after the own
 /// operation. Both are on a sheet of this size, by positions counted from 0, hidden lines too; the
 /// effect is the earlier one in the server's order. On every such sheet both ways lead to the same

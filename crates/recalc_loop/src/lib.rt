@@ -18,6 +18,3 @@ pub use law::desk_goes_to_threads;
 pub use publishing::end_all;
 pub use state::{DeskState, Finished};
 pub use workplace::Workplace;
-
-#[cfg(test)]
-mod tests;

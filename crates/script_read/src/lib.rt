@@ -10,6 +10,3 @@ mod words;
 pub use command::{Command, LineFault};
 pub use read::read_command;
 pub use script::{ScriptErr, ScriptKind};
-
-#[cfg(test)]
-mod tests;

@@ -17,6 +17,3 @@ pub use laws::{pairs_converge, pairs_fit_again};
 pub use misfits::{fits, fits_effect};
 pub use numeral::is_numeral;
 pub use operation::{Effect, Entry, Intent, Up};
-
-#[cfg(test)]
-mod tests;

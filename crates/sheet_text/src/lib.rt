@@ -17,8 +17,3 @@ pub use first_line::{head, refusal, server_head};
 pub use history::{history_lines, wire_lines};
 pub use lines::sheet_lines;
 pub use readings::{all_text, part_text, range_text};
-
-#[cfg(test)]
-mod history_tests;
-#[cfg(test)]
-mod tests;

@@ -21,6 +21,3 @@ pub use look::{Look, Seen};
 pub use ordering::{compare, order};
 pub use value::Value;
 pub use window::Window;
-
-#[cfg(test)]
-mod tests;

@@ -4,6 +4,3 @@
 mod edit_keys;
 
 pub use edit_keys::keys;
-
-#[cfg(test)]
-mod tests;

@@ -18,6 +18,3 @@ pub use closed::{Closed, Unclosed};
 pub use held::Held;
 pub use kept::{Kept, Made};
 pub use pass::Pass;
-
-#[cfg(test)]
-mod tests;

@@ -25,6 +25,3 @@ pub use reader::{NoEntry, ReadErr, Reader};
 pub use rule::Store;
 pub use snap::View;
 pub use teller::Teller;
-
-#[cfg(test)]
-mod tests;

@@ -3,8 +3,6 @@
 
 mod number;
 mod positional;
-#[cfg(test)]
-mod tests;
 
 ghost use Rattle.std.specs.Prelude.{◌≡◌, ℕ, List, [], ◌∷◌, None, Some, IfOk, IsErrOf, option_map};
 ghost use Rattle.words.specs.Calls.{call_in};

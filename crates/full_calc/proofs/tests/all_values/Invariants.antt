@@ -1,5 +1,0 @@
-use Rattle.full_calc.proofs.tests.all_values.Given as goal
-
--- a ledger of one part, in which nobody else counts
-abbrev pub ghosts-counted : goal.ghosts-counted
-ghosts-counted a = record { name = a.blank.name; parts = a.blank.parts }

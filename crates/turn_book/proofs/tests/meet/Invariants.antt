@@ -1,5 +1,0 @@
-use Rattle.turn_book.specs.Passes.{IsSamePass}
-use Rattle.turn_book.proofs.tests.meet.Given as goal
-
-abbrev pub invariant-loop : goal.invariant-loop
-invariant-loop g l = IsSamePass l.fn.pass l.mine
