@@ -3,8 +3,6 @@ use Rattle.std.proofs.Common.{◌≡◌, ℕ, zero, suc, ◌<◌, Bool, true, fa
 use Rattle.std.specs.Prelude.{◌⊎◌, ◌||◌, not, map}
 use Rattle.std.specs.List.{list_any}
 use Rattle.ss_base.specs.declared.types.Size.{Size}
-use Rattle.sheet_ops.specs.declared.content.Content.{Content}
-use Rattle.sheet_ops.specs.declared.content.Content.TheVariants as content
 use Rattle.sheet_ops.specs.declared.content.Put.{Put}
 use Rattle.sheet_ops.specs.declared.operation.Effect.{Effect}
 use Rattle.sheet_ops.specs.declared.operation.Effect.TheVariants as effect
@@ -44,6 +42,9 @@ write_covered size ps es = ap effect.Write (sym (puts_unmoved (uncovered ps es))
 -- an operation on lines covers no cell
 pub puts_left : (r c : LineMap) (es : List Put) → map (put_moved r c) es ≡ map (put_moved r c) (uncovered [] es)
 puts_left r c es = ap (map (put_moved r c)) (sym (uncovered_by_none es))
+
+pub write_stays : (r c : LineMap) (es kept : List Put) → kept ≡ es → map (put_moved r c) kept ≡ kept → map (put_moved r c) (uncovered [] es) ≡ es
+write_stays r c es kept is stay = sym (puts_left r c es) ∙ subst (λ (ps : List Put). map (put_moved r c) ps ≡ ps) is stay
 
 -- an effect that moves no position leaves the own operation
 pub own_left : (c : Intent) (e : Effect) → (((ps : List Put) × (e ≡ effect.Write ps)) ⊎ (((p : ℕ) × (e ≡ effect.DelRow p)) ⊎ ((p : ℕ) × (e ≡ effect.DelCol p)))) → c ≡ own_past c e

@@ -1,3 +1,4 @@
+mod InPlace
 mod Kept
 mod Mapped
 mod Pair

@@ -1,15 +1,13 @@
 -- Positions, references and formulas where a map takes them.
-use Rattle.std.proofs.Common.{◌≡◌, ℕ, ◌+◌, ◌<◌, ◌≤◌, Bool, true, false, cond, refl, ap, sym, ◌∙◌, arith, Option, Some, None}
+use Rattle.std.proofs.Common.{◌≡◌, ℕ, ◌<◌, ◌≤◌, Bool, true, false, cond, refl, ap, ◌∙◌, arith, Some, None}
 use Rattle.std.specs.Prelude.{nat_lt, nat_le, ◌&&◌}
 use Rattle.std.specs.Option.{option_and_then, option_map}
 use Rattle.std.proofs.lemmas.Bool.Decides.{nat_tests}
 use Rattle.marked_lines.proofs.Permuting.{image_inside}
-use Rattle.ss_base.specs.declared.types.Size.{Size}
 use Rattle.ss_base.specs.declared.types.Spot.{Spot}
 use Rattle.ss_base.specs.declared.types.Span.{Span}
-use Rattle.cell_addr.specs.Cells.{range_between}
 use Rattle.formula_tree.specs.Tree.{Tree, rename_tree}
-use Rattle.formula_tree.specs.Remap.{Images, remap_spot, remap_span, spot_at, span_at, mapped, IsMapped, IsSpotMapped, IsSpanMapped, EachReference}
+use Rattle.formula_tree.specs.Remap.{remap_spot, remap_span, spot_at, span_at, mapped, IsMapped, IsSpotMapped, IsSpanMapped, EachReference}
 use Rattle.formula_tree.specs.WellFormed.{IsFormula}
 use Rattle.sheet_ops.specs.Fits.{CellFits, RangeFits}
 use Rattle.sheet_ops.specs.Maps.{cell_moved, range_moved}

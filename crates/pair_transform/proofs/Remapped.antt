@@ -1,5 +1,5 @@
 -- Formulas whose references have images.
-use Rattle.std.proofs.Common.{◌≡◌, refl, ap, Option, Some, None}
+use Rattle.std.proofs.Common.{◌≡◌, refl, ap, Option, Some}
 use Rattle.std.specs.Prelude.{◌≤◌}
 use Rattle.ss_base.specs.declared.types.Spot.{Spot}
 use Rattle.ss_base.specs.declared.types.Span.{Span}

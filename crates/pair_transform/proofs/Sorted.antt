@@ -1,5 +1,5 @@
 -- Effects after a sort.
-use Rattle.std.proofs.Common.{◌≡◌, ℕ, zero, suc, ◌+◌, ◌<◌, ◌≤◌, ◌≢◌, List, [], ◌∷◌, length, get_or, refl, ap, sym, ◌∙◌, subst, arith, inl, inr, All}
+use Rattle.std.proofs.Common.{◌≡◌, ℕ, zero, suc, ◌+◌, ◌<◌, ◌≤◌, ◌≢◌, List, [], length, get_or, refl, ap, sym, ◌∙◌, arith, inl, inr, All}
 use Rattle.std.specs.Prelude.{◌⊎◌, map}
 use Rattle.std.proofs.lemmas.Bool.{cases_lt}
 use Rattle.ss_base.specs.declared.types.Size.{Size}
@@ -13,9 +13,9 @@ use Rattle.sheet_ops.specs.declared.operation.Intent.TheVariants as intent
 use Rattle.sheet_ops.specs.Fits.{SortFits, IntentFits}
 use Rattle.sheet_ops.specs.Lines.{sort_moves}
 use Rattle.sheet_ops.specs.Naming.{effect_of_intent}
-use Rattle.sheet_ops.specs.Maps.{LineMap, unmoved, past_moves, row_map, col_map, put_moved}
+use Rattle.sheet_ops.specs.Maps.{unmoved, past_moves, row_map, col_map, put_moved}
 use Rattle.sheet_ops.specs.Effects.{puts_of, uncovered}
-use Rattle.sheet_ops.specs.Transforms.{own_past, other_past, row_insertion_past, col_insertion_past, numbers_from, sorted_anew, moves_past}
+use Rattle.sheet_ops.specs.Transforms.{own_past, other_past, numbers_from, sorted_anew}
 use Rattle.sheet_ops.proofs.Moved.{uncovered_by_none}
 use Rattle.sheet_ops.proofs.Sorts.{map_same, fits_after, sort_moves-perm, sort_moves-below, sorted_anew-perm}
 use Rattle.pair_transform.specs.Sorts.{IsSort}

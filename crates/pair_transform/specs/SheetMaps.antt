@@ -1,5 +1,5 @@
 -- Where the positions of a sheet go.
-use Rattle.std.specs.Prelude.{ℕ, ◌≤◌, nat_lt, ◌&&◌, if◌then◌else◌, Option, None, Some}
+use Rattle.std.specs.Prelude.{◌≤◌, nat_lt, ◌&&◌, if◌then◌else◌, None, Some}
 use Rattle.formula_tree.specs.Remap.{Images}
 use Rattle.pair_transform.specs.declared.sheet_map.SheetMap.{SheetMap}
 use Rattle.pair_transform.specs.AxisMaps.{line_map, IsAxisMap}

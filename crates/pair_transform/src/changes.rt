@@ -12,6 +12,7 @@ ghost use Rattle.pair_transform.specs.Changes.{replaced, MakeSame};
 
 use crate::other::{other_past, writes_cell};
 use crate::own::own_past;
+use crate::stays::{other_stays, own_stays};
 use sheet_ops::{Effect, Intent, Put};
 use ss_base::{Memory, Size};
 use std::collections::VecDeque;
@@ -57,7 +58,7 @@ fn change_of_own(own: &Intent, other: &Effect, size: Size) -> Result<Option<Inte
     requires other { EffectFits size other.now }
     ensures { IfOk result (λ change. unwrap_or change own.now ≡ own_past own.now other.now) }
 {
-    if leaves_own(other) {
+    if leaves_own(other) || own_stays(own, other) {
         return Ok(None);
     }
     Ok(Some(own_past(own, other, size)?))
@@ -76,7 +77,7 @@ fn change_of_other(
     requires other { EffectFits size other.now }
     ensures { IfOk result (λ change. unwrap_or change other.now ≡ other_past size own.now other.now) }
 {
-    if leaves_other(own, other) {
+    if leaves_other(own, other) || other_stays(own, other) {
         return Ok(None);
     }
     Ok(Some(other_past(own, after, other, size)?))

@@ -15,6 +15,9 @@ mod other;
 mod own;
 mod sheet_map;
 mod sorts;
+mod staying;
+mod staying_lines;
+mod stays;
 
 use crate::other::other_past;
 use crate::own::own_past;

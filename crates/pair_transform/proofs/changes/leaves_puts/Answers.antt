@@ -1,4 +1,4 @@
-use Rattle.std.proofs.Common.{◌≡◌, ◌∙◌, ap}
+use Rattle.std.proofs.Common.{◌∙◌, ap}
 use Rattle.std.specs.List.{list_any}
 use Rattle.sheet_ops.specs.Fits.{writes_cell}
 use Rattle.pair_transform.proofs.Kept.{write_leaves}

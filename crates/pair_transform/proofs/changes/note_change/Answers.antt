@@ -1,6 +1,3 @@
-use Rattle.std.proofs.Common.{◌≡◌, ◌++◌, [], ◌∷◌, length, ap, sym, ◌∙◌, arith, Some}
-use Rattle.std.specs.Prelude.{unwrap_or}
-use Rattle.pair_transform.specs.Changes.{replaced}
 use Rattle.pair_transform.proofs.Replaced.{none_noted, some_noted}
 use Rattle.pair_transform.proofs.changes.note_change.Goals as goal
 

@@ -1,4 +1,4 @@
-use Rattle.std.proofs.Common.{◌≡◌, ◌<◌, ap, ◌∙◌, length, take, drop, None, arith}
+use Rattle.std.proofs.Common.{◌<◌, ap, ◌∙◌, length, take, drop, None, arith}
 use Rattle.std.proofs.lemmas.List.{length-drop}
 use Rattle.pair_transform.proofs.Replaced.{length-replaced, replaced_step, drop_again}
 use Rattle.pair_transform.proofs.changes.replace_front.Goals as goal

@@ -1,9 +1,7 @@
 use Rattle.std.proofs.Common.{ap, sym, ◌∙◌, subst}
 use Rattle.ss_base.specs.declared.types.Size.{Size}
 use Rattle.marked_lines.specs.Moves.{image}
-use Rattle.sheet_ops.specs.declared.operation.Effect.{Effect}
 use Rattle.sheet_ops.specs.declared.operation.Effect.TheVariants as effect
-use Rattle.sheet_ops.specs.declared.operation.Intent.{Intent}
 use Rattle.sheet_ops.specs.Fits.{IntentFits, EffectFits}
 use Rattle.sheet_ops.specs.Chains.{size_past}
 use Rattle.sheet_ops.specs.Naming.{effect_of_intent}
