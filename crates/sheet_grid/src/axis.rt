@@ -1,10 +1,10 @@
-ghost use Rattle.std.specs.Prelude.{◌≡◌, ◌<◌, ◌≤◌, ◌-◌, ◌↔◌, nat_lt, if◌then◌else◌, true, length, Some, IfOk, IfSome, IsNone, slice_get, slice_index, slice_set};
+ghost use Rattle.std.specs.Prelude.{◌≡◌, ◌<◌, ◌≤◌, ◌-◌, ◌↔◌, nat_lt, if◌then◌else◌, true, length, Some, IfOk, OnOk, OnErr, IfSome, IsNone, slice_get, slice_index, slice_set};
 ghost use Rattle.marked_lines.specs.Moves.{IsPerm, MovesBelow};
 ghost use Rattle.marked_lines.specs.Marks.{visible_places, visible_of, span_of};
 ghost use Rattle.sheet_grid.specs.Kept.{NumberedAxis, line_added, recs_moved, opening_kept};
 ghost use Rattle.sheet_grid.specs.Numbering.{IsAxis, place_of_rec, place_of_slot, is_dead, live_place};
 
-use crate::numbered::Numbered;
+use crate::numbered::{Numbered, add_line};
 use marked_lines::{Lines, Perm};
 use ss_base::Memory;
 use std::alloc::Global;
@@ -121,19 +121,15 @@ impl AxisLines {
         self.marks.mark(p);
     }
 
-    /// These lines with one more before the one at a position, or behind the last one.
-    pub fn with_line(&self, p: u32) -> Result<AxisLines, Memory>
-        requires place { p ≤ length self.now.slots }
-        requires room { length self.now.slots < 16000 }
-        ensures { IfOk result (λ a. a ≡ line_added self.now p) }
+    /// A line more before the one at a position, or behind the last one. A refused call leaves the lines.
+    pub fn add_line(&mut self, p: u32) -> Result<(), Memory>
+        requires place { p ≤ length self.old.slots }
+        requires room { length self.old.slots < 16000 }
+        ensures ok { OnOk result (self.new ≡ line_added self.old p) }
+        ensures err { OnErr result (self.new ≡ self.old) }
     {
-        let mut slots = self.slots.copy()?;
-        let mut recs = self.recs.copy()?;
-        let mut marks = self.marks.copy()?;
-        slots.insert(p)?;
-        recs.insert(p)?;
-        marks.insert(p)?;
-        Ok(AxisLines { slots, recs, marks })
+        add_line(&mut self.slots, &mut self.recs, &mut self.marks, p)?;
+        Ok(())
     }
 
     /// These lines with each record gone from its position to the image of that position.

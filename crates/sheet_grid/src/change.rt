@@ -107,10 +107,12 @@ impl Sheet {
         ensures ok { OnOk result (self.new ≡ numbered_past self.old (effect.InsRow p)) }
         ensures err { OnErr result (self.new ≡ self.old) }
     {
-        let rows = self.rows.with_line(p)?;
-        self.cells.push(BTreeMap::new(*self.cells.allocator()))?;
-        self.rows = rows;
-        Ok(())
+        self.cells.reserve(1)?;
+        self.rows.add_line(p)?;
+        match self.cells.push(BTreeMap::new(*self.cells.allocator())) {
+            Ok(()) => Ok(()),
+            Err(_) => unreachable!(),
+        }
     }
 
     // A new column before the one at a position, or behind the last one.
@@ -120,7 +122,7 @@ impl Sheet {
         ensures ok { OnOk result (self.new ≡ numbered_past self.old (effect.InsCol p)) }
         ensures err { OnErr result (self.new ≡ self.old) }
     {
-        self.cols = self.cols.with_line(p)?;
+        self.cols.add_line(p)?;
         Ok(())
     }
 

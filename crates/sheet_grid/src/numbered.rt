@@ -1,9 +1,10 @@
-ghost use Rattle.std.specs.Prelude.{◌≡◌, ◌<◌, ◌≤◌, ◌^◌, ◌-◌, ◌↔◌, All, IfOk, OnOk, OnErr, IfSome, IsNone, length, insert, map, slice_index, slice_get};
+ghost use Rattle.std.specs.Prelude.{◌≡◌, ◌<◌, ◌≤◌, ◌^◌, ◌-◌, ◌↔◌, ◌++◌, ◌∷◌, [], false, All, IfOk, OnOk, OnErr, IfSome, IsNone, length, insert, map, slice_index, slice_get};
+ghost use Rattle.std.specs.Vec.{vec_len, vec_capacity};
 ghost use Rattle.marked_lines.specs.Moves.{after_insertion, image, permute, IsPerm, MovesBelow};
 ghost use Rattle.sheet_ops.specs.Transforms.{numbers_from};
 ghost use Rattle.sheet_grid.specs.Numbers.{IsNumbered};
 
-use marked_lines::Perm;
+use marked_lines::{Lines, Perm};
 use ss_base::Memory;
 use std::alloc::{AllocError, Global};
 use std::marker::Model;
@@ -79,28 +80,6 @@ impl Numbered {
         self.places.get(number as usize).copied()
     }
 
-    /// A new one before the one at a position, or behind the last one, with the next number. A
-    /// refused call leaves all as it was.
-    pub fn insert(&mut self, p: u32) -> Result<(), Memory>
-        requires place { p ≤ length self.old }
-        requires room { length self.old < 16000 }
-        ensures ok { OnOk result (self.new ≡ insert self.old p (length self.old)) }
-        ensures err { OnErr result (self.new ≡ self.old) }
-    {
-        let next = self.numbers.len() as u32;
-        self.numbers.reserve(1)?;
-        self.places.reserve(1)?;
-        raise(self.places.as_mut_slice(), p);
-        match self.places.push(p) {
-            Ok(()) => {}
-            Err(_) => unreachable!(),
-        }
-        match self.numbers.insert(p as usize, next) {
-            Ok(()) => Ok(()),
-            Err(_) => unreachable!(),
-        }
-    }
-
     /// These numbers, each of them gone from its position to the image of that position.
     pub fn moved(&self, perm: &Perm) -> Result<Numbered, Memory>
         requires proper { IsPerm perm.now }
@@ -110,6 +89,57 @@ impl Numbered {
         let numbers = permuted(&self.numbers, perm)?;
         let places = images(&self.places, perm)?;
         Ok(Numbered { numbers, places })
+    }
+}
+
+/// A line more before the one at a position, or behind the last one: in the numbers of the slots and in
+/// those of the records it has the next number, and it isn't marked. It takes one pass over the memory of
+/// each. A refused call leaves all three as they were.
+pub fn add_line(
+    slots: &mut Numbered,
+    recs: &mut Numbered,
+    marks: &mut Lines,
+    p: u32,
+) -> Result<(), Memory>
+    requires place { p ≤ length slots.old }
+    requires room { length slots.old < 16000 }
+    requires recs { length recs.old ≡ length slots.old }
+    requires marks { length marks.old ≡ length slots.old }
+    ensures slots { OnOk result (slots.new ≡ insert slots.old p (length slots.old)) }
+    ensures recs { OnOk result (recs.new ≡ insert recs.old p (length slots.old)) }
+    ensures marks { OnOk result (marks.new ≡ insert marks.old p false) }
+    ensures err { OnErr result ((slots.new ≡ slots.old) × (recs.new ≡ recs.old) × (marks.new ≡ marks.old)) }
+{
+    // Nothing is refused behind the marks.
+    slots.numbers.reserve(1)?;
+    slots.places.reserve(1)?;
+    recs.numbers.reserve(1)?;
+    recs.places.reserve(1)?;
+    marks.insert(p)?;
+    put_in(&mut slots.numbers, &mut slots.places, p);
+    put_in(&mut recs.numbers, &mut recs.places, p);
+    Ok(())
+}
+
+// A further number, the next one, at a position, and its place.
+fn put_in(numbers: &mut Vec<u32>, places: &mut Vec<u32>, p: u32)
+    requires place { p ≤ length numbers.old.items }
+    requires short { length numbers.old.items < 16000 }
+    requires few { All (λ q. q < 2 ^ 32 - 1) places.old.items }
+    requires numbers { vec_len numbers.old < vec_capacity numbers.old }
+    requires places { vec_len places.old < vec_capacity places.old }
+    ensures numbers { numbers.new.items ≡ insert numbers.old.items p (length numbers.old.items) }
+    ensures places { places.new.items ≡ map (after_insertion p) places.old.items ++ p ∷ [] }
+{
+    let next = numbers.len() as u32;
+    raise(places.as_mut_slice(), p);
+    match places.push(p) {
+        Ok(()) => {}
+        Err(_) => unreachable!(),
+    }
+    match numbers.insert(p as usize, next) {
+        Ok(()) => {}
+        Err(_) => unreachable!(),
     }
 }
 
