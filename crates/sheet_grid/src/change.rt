@@ -65,6 +65,20 @@ impl Sheet {
         self.change(effect)
     }
 
+    /// Writes each of these contents into its cell, as `apply` does for that effect.
+    pub fn apply_write(&mut self, puts: &[Put]) -> Result<(), Memory>
+        requires { EffectFits (placed_size (placed_in self.old)) (effect.Write puts.now) }
+        ensures numbers { OnOk result (self.new ≡ numbered_past self.old (effect.Write puts.now)) }
+        ensures ok { OnOk result (placed_in self.new ≡ effect_on (placed_in self.old) (effect.Write puts.now)) }
+        ensures step { OnOk result (StepsTo (placed_in self.old) (effect.Write puts.now) (placed_in self.new)) }
+        ensures sized { OnOk result (placed_size (placed_in self.new) ≡ placed_size (placed_in self.old)) }
+        ensures err { OnErr result (self.new ≡ self.old) }
+    {
+        // Each reference is inside.
+        let _size = self.size();
+        self.write(puts)
+    }
+
     // Does what an effect says, by its kind.
     fn change(&mut self, effect: &Effect) -> Result<(), Memory>
         requires fits { EffectFits (numbered_size self.old) effect.now }
