@@ -32,6 +32,9 @@ use Rattle.hub.specs.contracts.hub.HubKept.TheImpl.{ghosts}
 -- what an expression holds beside expressions
 ruleset leaves = (text.the_send, fault.the_field_send, fault.the_send, span.the_field_send, span.the_send, spot.the_field_send, spot.the_send, function.the_field_send, function.the_send, between.the_field_send, between.the_send, before.the_field_send, before.the_send, global.the_field_send, global.the_send)
 
+-- the same of what several threads may look at
+ruleset shared_leaves = (text.the_sync, fault.the_field_sync, fault.the_sync, span.the_field_sync, span.the_sync, spot.the_field_sync, spot.the_sync, function.the_field_sync, function.the_sync, between.the_field_sync, between.the_sync, before.the_field_sync, before.the_sync, global.the_field_sync, global.the_sync)
+
 pub content_sent : IsSend content.the_row
 content_sent = search (leaves, owners.crosses, expression.crosses, sendable) depth 60 fits 20000
 
@@ -47,6 +50,16 @@ intent_field_sent = search (put_sent, owners.crosses, sendable) depth 60 fits 20
 pub effect_sent : IsSend effect.the_row
 effect_sent = search (put_sent, perm.the_send, owners.crosses, sendable) depth 60 fits 20000
 
+content_field_shared : IsSync (content.the_field).row
+content_field_shared = search (shared_leaves, owners.crosses, expression.crosses, sendable) depth 60 fits 20000
+
+put_shared : IsSync put.the_row
+put_shared = search (content_field_shared, owners.crosses, sendable) depth 60 fits 20000
+
+-- the chains of a server have effects in common
+effect_shared : IsSync effect.the_row
+effect_shared = search (put_shared, perm.the_sync, owners.crosses, sendable) depth 60 fits 20000
+
 pub entry_sent : IsSend entry.the_row
 entry_sent = search (intent_field_sent, site.the_field_send, owners.crosses, sendable) depth 60 fits 20000
 
@@ -54,7 +67,7 @@ pub sheet_field_sent : IsSend (sheet.the_field).row
 sheet_field_sent = search (content_sent, owners.crosses, maps.crosses, sendable) depth 60 fits 20000
 
 pub server_field_sent : IsSend (server.the_field).row
-server_field_sent = search (sheet_field_sent, effect_sent, size.the_field_send, global.the_field_send, owners.crosses, sendable) depth 60 fits 20000
+server_field_sent = search (sheet_field_sent, effect_sent, effect_shared, size.the_field_send, global.the_field_send, owners.crosses, sendable) depth 60 fits 20000
 
 pub hub_sent : IsSend hub.the_row
 hub_sent = search (server_field_sent, entry_sent, effect_sent, owners.crosses, sendable) depth 60 fits 20000

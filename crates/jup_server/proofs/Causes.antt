@@ -1,14 +1,13 @@
 -- Why a server refuses a message: at most one cause holds, and none of an entry that may come next.
-use Rattle.std.proofs.Common.{◌≡◌, ℕ, suc, ◌+◌, ◌-◌, ◌<◌, ◌≤◌, List, [], ◌∷◌, ◌++◌, length, refl, ap, sym, ◌∙◌, subst, arith, inl, inr, Option, None, Some, Ok, Err}
-use Rattle.std.specs.Prelude.{◌⊎◌, ◌↔◌, reverse, Result, IfErr, MatchResult}
+use Rattle.std.proofs.Common.{◌≡◌, ℕ, ◌+◌, ◌<◌, ◌≤◌, List, [], ◌∷◌, ◌++◌, length, refl, ap, sym, ◌∙◌, subst, arith, inl, inr, Option, None, Some, Ok, Err}
+use Rattle.std.specs.Prelude.{◌⊎◌, ◌↔◌, Result, IfErr, MatchResult}
 use Rattle.ss_base.specs.declared.types.Size.{Size}
 use Rattle.sheet_ops.specs.declared.operation.Entry.{Entry}
-use Rattle.sheet_ops.specs.declared.operation.Intent.{Intent}
 use Rattle.sheet_ops.specs.Naming.{operations_of}
 use Rattle.sheet_ops.specs.Fits.{IntentFits}
 use Rattle.sheet_ops.specs.Placed.{size_of}
 use Rattle.sheet_ops.specs.History.{own_entries, operations, IsValidHistory}
-use Rattle.sheet_ops.specs.Represents.{last_seen, view_at, LinkRepresents, ServerState, ServerRepresents}
+use Rattle.sheet_ops.specs.Represents.{view_at, LinkRepresents, ServerState, ServerRepresents}
 use Rattle.sheet_ops.proofs.Lengths.{one_of}
 use Rattle.sheet_ops.proofs.Published.{site_from, site_to, seen_within, seen_later, few_before, fits_before}
 use Rattle.sheet_ops.specs.declared.operation.Up.{Up}
@@ -16,7 +15,7 @@ use Rattle.sheet_ops.specs.Misfits.{misfit, intent_tests}
 use Rattle.sheet_ops.proofs.Sizes.{intent_none}
 use Rattle.jup_server.specs.declared.SubmitErr.{SubmitErr}
 use Rattle.jup_server.specs.declared.SubmitErr.TheVariants as fault
-use Rattle.jup_server.specs.Servers.{link_at, seen_size, entry_of, IsSite, HasLeft, low_of, IsInReach, entry_misfit, IsRefused, IsAdmitted, MayTake}
+use Rattle.jup_server.specs.Servers.{link_at, seen_size, entry_of, IsSite, HasLeft, low_of, IsInReach, IsRefused, IsAdmitted, MayTake}
 use Rattle.jup_server.proofs.Submitted.{link, view_size}
 
 abbrev IsFound : Option ℕ → Type 0

@@ -1,5 +1,5 @@
 -- What a server represents after an operation.
-use Rattle.std.proofs.Common.{◌≡◌, ◌≢◌, ℕ, zero, suc, ◌+◌, ◌-◌, ◌<◌, ◌≤◌, Bool, true, false, List, [], ◌∷◌, ◌++◌, length, take, drop, get_or, set, map, refl, ap, sym, ◌∙◌, subst, arith, inl, inr, Option, None, Some, Ok, Err}
+use Rattle.std.proofs.Common.{◌≡◌, ◌≢◌, ℕ, zero, suc, ◌+◌, ◌-◌, ◌<◌, ◌≤◌, Bool, true, false, List, [], ◌∷◌, ◌++◌, length, take, drop, refl, ap, sym, ◌∙◌, subst, arith, inl, inr, Option, None, Ok, Err}
 use Rattle.std.specs.Prelude.{◌⊎◌, nat_eq, reverse, replicate, slice_index_or, slice_set, Result, OnErr}
 use Rattle.std.proofs.lemmas.Bool.Decides.{nat_tests}
 use Rattle.std.proofs.lemmas.List.{length-set, get_or-set_same, get_or-set_other, length-append, take_all, append-nil, take_at, get_or_default, length-replicate}
@@ -8,17 +8,16 @@ use Rattle.sheet_ops.specs.declared.operation.Entry.{Entry}
 use Rattle.sheet_ops.specs.declared.operation.Intent.{Intent}
 use Rattle.sheet_ops.specs.declared.operation.Effect.{Effect}
 use Rattle.sheet_ops.specs.LineIds.{LineId, operation_id}
-use Rattle.sheet_ops.specs.Identity.{IdOp, IdSheet, opened}
-use Rattle.sheet_ops.specs.Naming.{operations_of, resolve, locate, step, effect_of_intent}
+use Rattle.sheet_ops.specs.Identity.{IdOp, opened}
+use Rattle.sheet_ops.specs.Naming.{operations_of, resolve, locate, effect_of_intent}
 use Rattle.sheet_ops.specs.Placed.{PlacedSheet, placed, placed_size, size_of}
-use Rattle.sheet_ops.specs.Fits.{IntentFits, EffectFits, IsWellFormed, EachNew}
+use Rattle.sheet_ops.specs.Fits.{IntentFits, IsWellFormed, EachNew}
 use Rattle.sheet_ops.specs.Effects.{StepsTo}
 use Rattle.sheet_ops.specs.Chains.{size_past, sizes_past, PassesChain, EachChainFits, Leads}
 use Rattle.sheet_ops.specs.History.{own_entries, operations, entry_ids, sheet_of, IsValidHistory}
 use Rattle.sheet_ops.specs.Represents.{view_at, last_seen, ids_at, is_own, LinkState, LinkRepresents, ServerState, EachLinkRepresents, ServerRepresents}
 use Rattle.sheet_ops.specs.Published.{effect_at}
 use Rattle.sheet_ops.proofs.Ids.{length-opening_lines}
-use Rattle.sheet_ops.proofs.Again.{own_effect_fits}
 use Rattle.sheet_ops.proofs.Beginnings.{unknown}
 use Rattle.sheet_ops.proofs.Sizes.{size_placed}
 use Rattle.sheet_ops.proofs.Chains.{sizes_dropped}

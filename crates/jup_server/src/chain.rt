@@ -7,6 +7,7 @@ ghost use Rattle.pair_transform.specs.Changes.{replaced};
 ghost use Rattle.jup_server.specs.Servers.{step_past};
 ghost use Rattle.jup_server.specs.Steps.{StepFits, PassesStep};
 
+use crate::shared::Shared;
 use pair_transform::{changed_or, leaves_both, note_change, xform_changes};
 use sheet_ops::{Effect, Intent, size_past};
 use ss_base::{Memory, Size};
@@ -18,7 +19,7 @@ use std::collections::VecDeque;
 #[derive(Debug, Drop)]
 pub(crate) struct Passed {
     pub(crate) own: Option<Intent>,
-    pub(crate) steps: VecDeque<Option<Option<Effect>>>,
+    pub(crate) steps: VecDeque<Option<Option<Shared>>>,
 }
 
 impl Passed {
@@ -31,19 +32,19 @@ impl Passed {
 }
 
 /// The size that a step leaves.
-fn step_past(size: Size, step: &Option<Effect>) -> Size
+fn step_past(size: Size, step: &Option<Shared>) -> Size
     requires rows { size.rows ≤ 16000 }
     requires cols { size.cols ≤ 16000 }
     ensures { result ≡ step_past size step.now }
 {
     match step {
         None => size,
-        Some(effect) => size_past(size, effect),
+        Some(effect) => size_past(size, effect.get()),
     }
 }
 
 /// The size that so many steps of a chain leave, from the first one on.
-pub(crate) fn size_along(base: Size, chain: &VecDeque<Option<Effect>>, count: usize) -> Size
+pub(crate) fn size_along(base: Size, chain: &VecDeque<Option<Shared>>, count: usize) -> Size
     requires within { count ≤ length chain.now.items }
     requires rows { (sizes_past base chain.now.items).rows ≤ 15000 }
     requires cols { (sizes_past base chain.now.items).cols ≤ 15000 }
@@ -58,22 +59,23 @@ pub(crate) fn size_along(base: Size, chain: &VecDeque<Option<Effect>>, count: us
 }
 
 /// Whether an operation and a step surely leave one another as they are, and the step brings no line.
-fn leaves_step(own: &Intent, step: &Option<Effect>) -> bool
+fn leaves_step(own: &Intent, step: &Option<Shared>) -> bool
     ensures passes { IsTrue result → (size : Size) → IntentFits size own.now → StepFits size step.now → PassesStep size own.now step.now step.now own.now }
     ensures size { IsTrue result → (size : Size) → step_past size step.now ≡ size }
 {
     match step {
         None => true,
-        Some(effect) => leaves_both(own, effect),
+        Some(effect) => leaves_both(own, effect.get()),
     }
 }
 
 /// An operation past a step, and the step past the operation.
 fn pass_step(
+    alloc: Global,
     own: &Intent,
-    step: &Option<Effect>,
+    step: &Option<Shared>,
     size: Size,
-) -> Result<(Option<Intent>, Option<Option<Effect>>), Memory>
+) -> Result<(Option<Intent>, Option<Option<Shared>>), Memory>
     requires rows { size.rows ≤ 16000 }
     requires cols { size.cols ≤ 16000 }
     requires own { IntentFits size own.now }
@@ -84,18 +86,18 @@ fn pass_step(
     match step {
         None => Ok((None, None)),
         Some(effect) => {
-            let (own_change, effect_change) = xform_changes(own, effect, size)?;
-            Ok((own_change, changed_step(effect_change)))
+            let (own_change, effect_change) = xform_changes(own, effect.get(), size)?;
+            Ok((own_change, changed_step(alloc, effect_change)?))
         }
     }
 }
 
-fn changed_step(change: Option<Effect>) -> Option<Option<Effect>>
-    ensures { (e : Effect) → unwrap_or result (Some e) ≡ Some (unwrap_or change e) }
+fn changed_step(alloc: Global, change: Option<Effect>) -> Result<Option<Option<Shared>>, Memory>
+    ensures { IfOk result (λ step. (e : Effect) → unwrap_or step (Some e) ≡ Some (unwrap_or change e)) }
 {
     match change {
-        None => None,
-        Some(effect) => Some(Some(effect)),
+        None => Ok(None),
+        Some(effect) => Ok(Some(Some(Shared::new(alloc, effect)?))),
     }
 }
 
@@ -104,7 +106,7 @@ fn changed_step(change: Option<Effect>) -> Option<Option<Effect>>
 /// other one; where all do, it takes no memory.
 pub(crate) fn pass_chain(
     alloc: Global,
-    chain: &VecDeque<Option<Effect>>,
+    chain: &VecDeque<Option<Shared>>,
     from: usize,
     own: &Intent,
     base: Size,
@@ -126,7 +128,7 @@ pub(crate) fn pass_chain(
         if leaves_step(before, step) {
             continue;
         }
-        let (own_change, step_change) = pass_step(before, step, size)?;
+        let (own_change, step_change) = pass_step(alloc, before, step, size)?;
         note_change(&mut steps, i, step_change)?;
         last = own_change.or(last);
         size = step_past(size, step);

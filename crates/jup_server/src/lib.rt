@@ -6,6 +6,7 @@ mod chain;
 mod link;
 mod list;
 mod server;
+mod shared;
 
 pub use list::{Answer, Sent, submit_all};
 pub use server::Server;

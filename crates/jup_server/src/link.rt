@@ -10,6 +10,7 @@ ghost use Rattle.pair_transform.specs.Changes.{replaced};
 ghost use Rattle.jup_server.specs.Servers.{link_sent, links_sent, seen_size};
 
 use crate::chain::{Passed, drop_front, pass_chain, size_along};
+use crate::shared::Shared;
 use pair_transform::replace_front;
 use sheet_grid::Sheet;
 use sheet_ops::{Effect, Intent};
@@ -28,7 +29,7 @@ pub(crate) struct Link {
     /// The size of its view when it had taken that many entries.
     pub(crate) base: Size,
     /// For each entry from there on what it does in that site's views, and nothing for one of its own.
-    pub(crate) chain: VecDeque<Option<Effect>>,
+    pub(crate) chain: VecDeque<Option<Shared>>,
 }
 
 impl Model for Link {
@@ -88,9 +89,9 @@ impl Link {
         pass_chain(alloc, &self.chain, (seen - self.seen) as usize, own, size)
     }
 
-    /// Puts a step at the end of the chain: a copy of the effect, or nothing where the entry is an own
-    /// one. A refused call leaves the link.
-    fn send(&mut self, is_own: bool, effect: &Effect) -> Result<(), Memory>
+    /// Puts a step at the end of the chain: the effect, or nothing where the entry is an own one. A refused
+    /// call leaves the link.
+    fn send(&mut self, is_own: bool, effect: &Shared) -> Result<(), Memory>
         ensures ok { OnOk result (self.new ≡ link_sent is_own effect.now self.old) }
         ensures err { OnErr result (self.new ≡ self.old) }
     {
@@ -108,7 +109,7 @@ impl Link {
 
     /// Takes what an operation of its site had seen out of the chain, and puts what the rest is past the
     /// operation there. The step for the operation itself is in the chain.
-    pub(crate) fn advance(&mut self, seen: u32, base: Size, steps: VecDeque<Option<Option<Effect>>>)
+    pub(crate) fn advance(&mut self, seen: u32, base: Size, steps: VecDeque<Option<Option<Shared>>>)
         requires low { self.old.seen ≤ seen }
         requires many { length steps.items + (seen - self.old.seen) ≤ length self.old.chain }
         requires few { self.old.issued < 1000 }
@@ -123,23 +124,45 @@ impl Link {
 }
 
 /// The step of a chain for an entry with this effect.
-fn step_of(is_own: bool, effect: &Effect) -> Result<Option<Effect>, Memory>
+fn step_of(is_own: bool, effect: &Shared) -> Result<Option<Shared>, Memory>
     ensures { IfOk result (λ step. step ≡ (if is_own then None else Some effect.now)) }
 {
     if is_own {
         return Ok(None);
     }
-    Ok(Some(effect.copy()?))
+    Ok(Some(effect.share()?))
+}
+
+/// Sends an effect to the links, of which the own one stands at a place, and does it on the sheet. The
+/// others have one copy of it in common. A refused call leaves all.
+pub(crate) fn send_all(
+    alloc: Global,
+    links: &mut [Link],
+    own: usize,
+    sheet: &mut Sheet,
+    effect: &Effect,
+) -> Result<(), Memory>
+    requires many { length links.old ≤ 2 ^ 32 }
+    requires fits { EffectFits (placed_size (placed_in sheet.old)) effect.now }
+    requires rows { (placed_size (placed_in sheet.old)).rows < 16000 }
+    requires cols { (placed_size (placed_in sheet.old)).cols < 16000 }
+    ensures links { OnOk result (links.new ≡ links_sent 0 own effect.now links.old) }
+    ensures sheet { OnOk result (StepsTo (placed_in sheet.old) effect.now (placed_in sheet.new)) }
+    ensures links_err { OnErr result (links.new ≡ links.old) }
+    ensures sheet_err { OnErr result (sheet.new ≡ sheet.old) }
+{
+    let shared = Shared::new(alloc, effect.copy()?)?;
+    send_each(links, 0, own, sheet, &shared)
 }
 
 /// Sends an effect to the links from a place on, of which the own one stands at a place, and does it on
 /// the sheet. A refused call leaves all.
-pub(crate) fn send_all(
+fn send_each(
     links: &mut [Link],
     at: usize,
     own: usize,
     sheet: &mut Sheet,
-    effect: &Effect,
+    effect: &Shared,
 ) -> Result<(), Memory>
     requires at { at + length links.old ≤ 2 ^ 32 }
     requires fits { EffectFits (placed_size (placed_in sheet.old)) effect.now }
@@ -151,10 +174,10 @@ pub(crate) fn send_all(
     ensures sheet_err { OnErr result (sheet.new ≡ sheet.old) }
 {
     match links.split_first_mut() {
-        None => sheet.apply(effect),
+        None => sheet.apply(effect.get()),
         Some((first, rest)) => {
             first.send(at == own, effect)?;
-            match send_all(rest, at + 1, own, sheet, effect) {
+            match send_each(rest, at + 1, own, sheet, effect) {
                 Ok(()) => Ok(()),
                 Err(Memory) => {
                     first.unsend();

@@ -135,7 +135,13 @@ impl Server {
         let at = site.0 as usize - 1;
         let passed = self.links[at].pass(self.alloc, up.seen, &up.intent, size)?;
         let effect = effect_of(passed.last(&up.intent))?;
-        send_all(self.links.as_mut_slice(), 0, at, &mut self.sheet, &effect)?;
+        send_all(
+            self.alloc,
+            self.links.as_mut_slice(),
+            at,
+            &mut self.sheet,
+            &effect,
+        )?;
         let base = size_past_own(size, &up.intent);
         self.links[at].advance(up.seen, base, passed.steps);
         self.count += 1;
@@ -145,7 +151,7 @@ impl Server {
     /// Takes an operation of a site, and gives its effect on the sheet. A refused call leaves the server.
     /// It takes, for each effect that the operation's author hadn't seen, a comparison where the two leave
     /// one another, as writes of other cells do, and else a transform, and the time of one copy of the
-    /// effect per site; of each effect that its author has seen since, it takes a constant time once. In
+    /// effect; of each effect that its author has seen since, it takes a constant time once. In
     /// order, `NoSite` comes exactly for a site that the server hasn't, `Spent` exactly where 1,000
     /// operations of the site were taken, `BadSeen` exactly where what it had seen is below what the
     /// site's last operation had or above the number of entries, and `BadPlace` exactly where it doesn't

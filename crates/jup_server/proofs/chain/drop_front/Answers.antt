@@ -1,4 +1,4 @@
-use Rattle.std.proofs.Common.{◌≡◌, ap, ◌∙◌, drop}
+use Rattle.std.proofs.Common.{ap, ◌∙◌, drop}
 use Rattle.pair_transform.proofs.Replaced.{drop_again}
 use Rattle.jup_server.proofs.chain.drop_front.Goals as goal
 

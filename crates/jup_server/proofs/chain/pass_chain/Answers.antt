@@ -1,10 +1,10 @@
-use Rattle.std.proofs.Common.{◌≡◌, ◌≤◌, ◌<◌, ◌+◌, ◌-◌, ◌++◌, ℕ, List, [], ◌∷◌, ap, sym, ◌∙◌, subst, take, drop, length, refl, arith, Option, None}
+use Rattle.std.proofs.Common.{◌≡◌, ◌<◌, List, [], ◌∷◌, ap, sym, ◌∙◌, subst, drop, length, refl, arith, Option, None}
 use Rattle.std.specs.Prelude.{unwrap_or}
 use Rattle.std.proofs.lemmas.List.{take_all, length-drop, get_or-drop}
 use Rattle.ss_base.specs.declared.types.Size.{Size}
 use Rattle.sheet_ops.specs.declared.operation.Intent.{Intent}
 use Rattle.sheet_ops.specs.declared.operation.Effect.{Effect}
-use Rattle.sheet_ops.specs.Chains.{sizes_past, PassesChain}
+use Rattle.sheet_ops.specs.Chains.{PassesChain}
 use Rattle.sheet_ops.specs.Fits.{IntentFits}
 use Rattle.pair_transform.specs.Changes.{replaced}
 use Rattle.pair_transform.proofs.Replaced.{or_else, replaced_behind}

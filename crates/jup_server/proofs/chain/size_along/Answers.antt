@@ -1,6 +1,5 @@
-use Rattle.std.proofs.Common.{◌≡◌, ◌≤◌, ◌<◌, ◌+◌, ap, sym, ◌∙◌, take, length, arith}
+use Rattle.std.proofs.Common.{ap, ◌∙◌, arith}
 use Rattle.ss_base.specs.declared.types.Size.{Size}
-use Rattle.sheet_ops.specs.Chains.{sizes_past}
 use Rattle.jup_server.proofs.Along.{front_small, along_next}
 use Rattle.jup_server.proofs.chain.size_along.Goals as goal
 

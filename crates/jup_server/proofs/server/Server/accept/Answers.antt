@@ -1,8 +1,5 @@
-use Rattle.std.proofs.Common.{◌≡◌, ◌≤◌, ◌<◌, ◌+◌, ◌-◌, ◌++◌, ℕ, List, [], ◌∷◌, length, take, drop, ap, sym, ◌∙◌, subst, arith}
+use Rattle.std.proofs.Common.{◌≡◌, ◌-◌, ◌++◌, [], ◌∷◌, length, ap, sym, ◌∙◌, subst, arith}
 use Rattle.std.specs.Prelude.{unwrap_or}
-use Rattle.sheet_ops.specs.declared.operation.Effect.{Effect}
-use Rattle.sheet_ops.specs.declared.operation.Entry.{Entry}
-use Rattle.sheet_ops.specs.declared.operation.Intent.{Intent}
 use Rattle.sheet_ops.specs.Fits.{IntentFits, EffectFits}
 use Rattle.sheet_ops.specs.Naming.{effect_of_intent}
 use Rattle.sheet_ops.specs.Placed.{placed_size}

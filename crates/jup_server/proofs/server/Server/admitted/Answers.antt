@@ -1,14 +1,12 @@
-use Rattle.std.proofs.Common.{◌≡◌, ◌≤◌, ◌<◌, ◌+◌, ◌-◌, List, length, ap, sym, ◌∙◌, subst, arith, refl, inl, inr, Some}
+use Rattle.std.proofs.Common.{◌≤◌, ◌<◌, ◌+◌, ◌-◌, length, ap, sym, ◌∙◌, subst, arith, refl, inl, inr}
 use Rattle.std.specs.Prelude.{◌⊎◌}
 use Rattle.ss_base.specs.declared.types.Size.{Size}
-use Rattle.sheet_ops.specs.declared.operation.Entry.{Entry}
 use Rattle.sheet_ops.specs.Chains.{sizes_past}
 use Rattle.sheet_ops.specs.Fits.{IntentFits}
 use Rattle.sheet_ops.specs.Misfits.{misfit, intent_tests}
 use Rattle.sheet_ops.specs.Represents.{LinkState, ServerState, ServerRepresents}
-use Rattle.jup_server.specs.declared.SubmitErr.{SubmitErr}
 use Rattle.jup_server.specs.declared.SubmitErr.TheVariants as fault
-use Rattle.jup_server.specs.Servers.{link_at, seen_size, entry_of, IsRefused, IsAdmitted}
+use Rattle.jup_server.specs.Servers.{seen_size, entry_of, IsRefused, IsAdmitted}
 use Rattle.jup_server.proofs.Along.{front_small}
 use Rattle.jup_server.proofs.Submitted.{link_here, link_long, link_small}
 use Rattle.jup_server.proofs.Causes.{spent_here, far_here, misfit_here, admitted_here}

@@ -1,5 +1,3 @@
-use Rattle.std.proofs.Common.{◌≡◌, ap, ◌∙◌}
-use Rattle.std.proofs.lemmas.List.{length-replicate}
 use Rattle.sheet_grid.specs.Values.{placed_in}
 use Rattle.jup_server.proofs.Submitted.{new_represents, new_server}
 use Rattle.jup_server.proofs.server.Server.new.Goals as goal

@@ -1,4 +1,3 @@
-use Rattle.std.proofs.Common.{◌≡◌}
 use Rattle.jup_server.proofs.Causes.{admitted_next}
 use Rattle.jup_server.proofs.server.Server.submit.Goals as goal
 
