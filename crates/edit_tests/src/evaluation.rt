@@ -10,10 +10,11 @@ ghost use Rattle.sheet_grid.specs.Values.{placed_in};
 
 use cell_eval::Steps;
 use formula_tree::{Expr, Formula, Fun};
-use full_calc::values;
+use full_calc::{constant_value, values};
 use sheet_grid::Sheet;
-use sheet_ops::{Content, Effect, Put};
+use sheet_ops::{Content, Edit, Effect, Put};
 use sheet_value::{Grid, Value};
+use sort_keys::keys;
 use ss_base::{CalcErr, Memory, Seq, Size, Span, Spot};
 use std::alloc::Global;
 use std::marker::Brand;
@@ -156,5 +157,26 @@ fn an_empty_result_is_0_and_what_is_deleted_is_lost(rt: HostRuntime) -> Result<(
     let grid = all_values(alloc, &sheet)?;
     assert!(rt; is_fault(&grid, 0, CalcErr::Lost));
     assert!(rt; is_fault(&grid, 1, CalcErr::Lost));
+    Ok(())
+}
+
+#[test]
+fn constants_are_told_without_an_evaluation_and_formulas_are_evaluated_as_keys(
+    rt: HostRuntime,
+) -> Result<(), Fail> {
+    let alloc = rt.alloc();
+    let sheet = opened(alloc, Content::Num(7), formula(Expr::Cell(A1)))?;
+    let seen = sheet.visible();
+    assert!(rt; seen.rows == 3 && seen.cols == 1);
+    assert!(rt; matches!(constant_value(&sheet, 0, 0)?, Some(Value::Num(7))));
+    assert!(rt; constant_value(&sheet, 1, 0)?.is_none());
+    assert!(rt; matches!(constant_value(&sheet, 2, 0)?, Some(Value::Empty)));
+    let keys = keys(alloc, &sheet, &Edit::Sort(0, 2, 0, false))?;
+    assert!(rt;
+        matches!(
+            keys.as_slice(),
+            [Value::Num(7), Value::Num(7), Value::Empty]
+        )
+    );
     Ok(())
 }

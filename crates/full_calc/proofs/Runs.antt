@@ -125,10 +125,10 @@ module _ (X : IdSheet) (w : IsWellFormed X) where
       let x = get_there (visible_places (marks axis)) v h in
       (x.0, x.1, (index_of_place (marks axis) v x.0 x.1).0, ap (λ (o : Option ℕ). unwrap_or o 0) x.1)
 
-  -- a cell without a formula is right from the beginning
-  leaf_right : (base : Table) → HasConstants (placed X) base → (r c : ℕ) → r < length (visible_places (marks X.rows)) → c < length (visible_places (marks X.cols)) →
-      is_formula_content (content_seen (placed X) r c) ≡ false → value_at base r c ≡ value_shown X r c
-  leaf_right base h r c k l plain =
+  -- a cell without a formula shows its constant
+  pub leaf_shown : (r c : ℕ) → r < length (visible_places (marks X.rows)) → c < length (visible_places (marks X.cols)) →
+      is_formula_content (content_seen (placed X) r c) ≡ false → constant_of (content_seen (placed X) r c) ≡ value_shown X r c
+  leaf_shown r c k l plain =
       let row = line_there X.rows r k in
       let col = line_there X.cols c l in
       let p = row.0 in
@@ -138,11 +138,15 @@ module _ (X : IdSheet) (w : IsWellFormed X) where
       let none : is_formula_content (locate_content X (X.cells (rec_at X.rows p) (rec_at X.cols q))) ≡ false = sym (ap is_formula_content (seen ∙ here)) ∙ plain in
       let live : is_live_cell X (cell_there X (p, q)) ≡ true = (λ i. live_there X.rows w.rows.recs p row.2 i && live_there X.cols w.cols.recs q col.2 i) in
       let no_formula : is_formula_cell X (cell_there X (p, q)) ≡ false = (λ i. live i && (formula_same X (X.cells (rec_at X.rows p) (rec_at X.cols q)) ∙ none) i) in
-      h.values r c
-      ∙ (ap constant_of (seen ∙ here)
+      ap constant_of (seen ∙ here)
       ∙ (sym (constant_same X (X.cells (rec_at X.rows p) (rec_at X.cols q)) (λ t. formula_result X (value_of X) t) none)
       ∙ (sym (value_step X (cell_there X (p, q)) live (leaf_known X (cell_there X (p, q)) no_formula))
-      ∙ (λ i. value_of X (record { row = rec_at X.rows (sym row.3 i); col = rec_at X.cols (sym col.3 i) })))))
+      ∙ (λ i. value_of X (record { row = rec_at X.rows (sym row.3 i); col = rec_at X.cols (sym col.3 i) }))))
+
+  -- it is right from the beginning
+  leaf_right : (base : Table) → HasConstants (placed X) base → (r c : ℕ) → r < length (visible_places (marks X.rows)) → c < length (visible_places (marks X.cols)) →
+      is_formula_content (content_seen (placed X) r c) ≡ false → value_at base r c ≡ value_shown X r c
+  leaf_right base h r c k l plain = h.values r c ∙ leaf_shown r c k l plain
 
 module _ (X : IdSheet) (w : IsWellFormed X) (nodes : List Node) (columns : List (List FormulaCell)) (g : IsGraph (placed X) nodes (number_in columns)) where
   abbrev W : ℕ → ℕ → Value

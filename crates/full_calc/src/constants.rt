@@ -1,13 +1,16 @@
-ghost use Rattle.std.specs.Prelude.{◌≡◌, ◌≢◌, ◌<◌, ℕ, length, IfOk, OnOk};
-ghost use Rattle.sheet_ops.specs.Placed.{cell_at};
+ghost use Rattle.std.specs.Prelude.{◌≡◌, ◌≢◌, ◌<◌, ◌↔◌, ℕ, true, false, length, IfOk, OnOk, IfSome, IsNone};
+ghost use Rattle.sheet_ops.specs.Fits.{IsWellFormed};
+ghost use Rattle.sheet_ops.specs.Identity.{IdSheet};
+ghost use Rattle.sheet_ops.specs.Placed.{cell_at, placed};
 ghost use Rattle.sheet_value.specs.declared.value.Value.TheVariants as value;
 ghost use Rattle.sheet_value.specs.Tables.{value_at, with_value};
 ghost use Rattle.sheet_grid.specs.Values.{placed_in};
 ghost use Rattle.sheet_grid.specs.Cells.{visible_size};
-ghost use Rattle.sheet_graph.specs.Graphs.{content_seen, HoldsFilled};
+ghost use Rattle.sheet_graph.specs.Graphs.{content_seen, is_formula_content, HoldsFilled};
 ghost use Rattle.full_calc.specs.Shown.{HasItsSize};
 ghost use Rattle.full_calc.specs.Evaluated.{constant_of};
 ghost use Rattle.full_calc.specs.Computed.{HasConstants};
+ghost use Rattle.full_calc.specs.Values.{value_table};
 
 use sheet_graph::filled_in_row;
 use sheet_grid::{Kind, Sheet};
@@ -52,6 +55,34 @@ fn constant_at(sheet: &Sheet, row: u32, col: u32) -> Result<Value, Memory>
         Kind::Num(number) => Ok(Value::Num(number)),
         Kind::Text => Ok(constant_of(sheet.content(row, col)?)),
     }
+}
+
+/// Whether the cell at a visible index holds a formula.
+fn is_formula(sheet: &Sheet, row: u32, col: u32) -> bool
+    ensures { result ≡ is_formula_content (content_seen (placed_in sheet.now) row col) }
+{
+    let Some(p) = sheet.row_at(row) else {
+        return false;
+    };
+    let Some(q) = sheet.col_at(col) else {
+        return false;
+    };
+    matches!(sheet.kind(p, q), Kind::Formula)
+}
+
+/// The value of the cell at a visible index where nothing is to be evaluated for it, and `None` exactly
+/// where it holds a formula. It takes time with the logarithm of the row's filled cells, and with the
+/// content.
+pub fn constant_value(sheet: &Sheet, row: u32, col: u32) -> Result<Option<Value>, Memory>
+    requires row { row < (visible_size (placed_in sheet.now)).rows }
+    requires col { col < (visible_size (placed_in sheet.now)).cols }
+    ensures value { IfOk result (λ found. IfSome found (λ v. (X : IdSheet) → IsWellFormed X → placed X ≡ placed_in sheet.now → v ≡ value_at (value_table X) row col)) }
+    ensures none { IfOk result (λ found. IsNone found ↔ (is_formula_content (content_seen (placed_in sheet.now) row col) ≡ true)) }
+{
+    if is_formula(sheet, row, col) {
+        return Ok(None);
+    }
+    Ok(Some(constant_seen(sheet, row, col)?))
 }
 
 /// Puts the constant of a cell into its place.

@@ -8,5 +8,6 @@ mod look;
 mod uncounted;
 mod whole;
 
+pub use constants::constant_value;
 pub use uncounted::evaluated;
 pub use whole::values;

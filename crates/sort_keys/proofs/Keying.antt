@@ -7,7 +7,7 @@ use Rattle.std.proofs.lemmas.List.FromFn.{length-map-range_with_len}
 use Rattle.marked_lines.specs.Marks.{visible_count, visible_places}
 use Rattle.sheet_value.specs.declared.value.Value.{Value}
 use Rattle.sheet_value.specs.declared.value.Value.TheVariants as value
-use Rattle.sheet_value.specs.Tables.{Table, value_at, filled}
+use Rattle.sheet_value.specs.Tables.{value_at, filled}
 use Rattle.sheet_ops.specs.declared.edit.Edit.{Edit}
 use Rattle.sheet_ops.specs.declared.edit.Edit.TheVariants as edit
 use Rattle.sheet_ops.specs.Fits.{IsWellFormed}
@@ -57,15 +57,16 @@ keys_outside rows cols first last col keys others down out = by_col (nat_lt col 
     by_col true e = simp e (by_row (nat_lt last (visible_count rows)) refl (let h : col < visible_count cols = grind (arith, nat_tests) in h))
     by_col false e = simp e refl
 
--- the keys of an evaluated sheet are a sort's own, one a row
-module _ (P : PlacedSheet) (T : Table) (first last col : ℕ) (keys : List Value) (is : keys ≡ map (λ (row : ℕ). value_at T row col) (range_with_len first (line_count first last))) where
-  pub keys_many : length keys ≡ line_count first last
-  keys_many = ap (λ (vs : List Value). length vs) is ∙ length-map-range_with_len (λ (row : ℕ). value_at T row col) first (line_count first last)
+-- one for each row
+pub keys_many : (f : ℕ → Value) (first last : ℕ) (keys : List Value) → keys ≡ map f (range_with_len first (line_count first last)) → length keys ≡ line_count first last
+keys_many f first last keys is = ap (λ (vs : List Value). length vs) is ∙ length-map-range_with_len f first (line_count first last)
 
-  pub keys_serve : ((X : IdSheet) → IsWellFormed X → placed X ≡ P → T ≡ value_table X) → (down : Bool) → AreKeys P (edit.Sort first last col down) keys
+-- the values of the rows, whatever the sheet is called, are a sort's own keys
+module _ (P : PlacedSheet) (first last col : ℕ) (keys : List Value)
+    (are : (X : IdSheet) → IsWellFormed X → placed X ≡ P → keys ≡ map (λ (row : ℕ). value_at (value_table X) row col) (range_with_len first (line_count first last))) where
+  pub keys_serve : (down : Bool) → AreKeys P (edit.Sort first last col down) keys
   unfolding keys_of
-  keys_serve table down X formed same =
-      ap (λ (vs : List Value). intended X (edit.Sort first last col down) vs) (is ∙ ap (λ (V : Table). map (λ (row : ℕ). value_at V row col) (range_with_len first (line_count first last))) (table X formed same))
+  keys_serve down X formed same = ap (λ (vs : List Value). intended X (edit.Sort first last col down) vs) (are X formed same)
 
 -- past the last visible line
 pub beyond : (ms : List Bool) (n k : ℕ) → n ≡ length (visible_places ms) → n ≤ k → k < visible_count ms → ⊥

@@ -4,17 +4,17 @@ use Rattle.sheet_value.specs.declared.value.Value.{Value}
 use Rattle.sheet_ops.specs.declared.edit.Edit.TheVariants as edit
 use Rattle.sheet_grid.specs.Values.{placed_in}
 use Rattle.sort_keys.specs.Keys.{AreKeys}
-use Rattle.sort_keys.proofs.Keying.{if_ok, keys_many, keys_serve, none_serve, beyond}
+use Rattle.sort_keys.proofs.Keying.{if_ok, keys_serve, none_serve, beyond}
 use Rattle.sort_keys.proofs.edit_keys.keys_of_rows.Goals as goal
 use Rattle.sort_keys.proofs.edit_keys.keys_of_rows.Goals.{else-last-seen-via-then-last-seen+else-col-seen, else-last-seen-via-else-last-seen}
 
-pub returns-in_ok-grid-clause-many : goal.returns-in_ok-grid-clause-many
-returns-in_ok-grid-clause-many c =
-    if_ok c.column_values.result (λ v is h k. keys_many (placed_in c.args.sheet.now) c.in_ok-grid.grid c.args.first c.args.last c.args.col v.items is) c.column_values.ensures
+pub returns-in-Some-clause-serve : goal.returns-in-Some-clause-serve
+returns-in-Some-clause-serve c down =
+    keys_serve (placed_in c.args.sheet.now) c.args.first c.args.last c.args.col c.in-Some.keys.items (rw c.in-Some.is at c.in_ok-keys.ensures.values) down
 
-pub returns-in_ok-grid-clause-serve : goal.returns-in_ok-grid-clause-serve
-returns-in_ok-grid-clause-serve c =
-    if_ok c.column_values.result (λ v is down. keys_serve (placed_in c.args.sheet.now) c.in_ok-grid.grid c.args.first c.args.last c.args.col v.items is c.in_ok-grid.ensures down) c.column_values.ensures
+pub returns-in-None-clause-serve : goal.returns-in-None-clause-serve
+returns-in-None-clause-serve c =
+    if_ok c.evaluated_values.result (λ v are down. keys_serve (placed_in c.args.sheet.now) c.args.first c.args.last c.args.col v.items are down) c.evaluated_values.ensures.values
 
 pub returns-else-last-seen-clause-many : goal.returns-else-last-seen-clause-many
 returns-else-last-seen-clause-many c h k =
