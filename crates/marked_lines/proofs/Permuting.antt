@@ -6,13 +6,13 @@ use Rattle.std.proofs.lemmas.Bool.{cases_eq}
 use Rattle.std.proofs.lemmas.Option.{slice_get-get_or, slice_get_cases}
 use Rattle.marked_lines.proofs.Shifts.{images_below}
 use Rattle.marked_lines.specs.Moves.{image, turned, source, IsPerm, MovesBelow, permute, permuted_from}
-use Rattle.marked_lines.proofs.Images.{image_here, image_there, image_at, IsDistinctByFirst-from_ascending}
+use Rattle.marked_lines.proofs.Images.{image_here, image_there, image_none, image_at, image_cases, IsDistinctByFirst-from_ascending}
 
-image_push-other : (moves : List (ℕ × ℕ)) (m : ℕ × ℕ) (p : ℕ) → m.0 ≢ p → image (moves ++ m ∷ []) p ≡ image moves p
+pub image_push-other : (moves : List (ℕ × ℕ)) (m : ℕ × ℕ) (p : ℕ) → m.0 ≢ p → image (moves ++ m ∷ []) p ≡ image moves p
 image_push-other [] m p other = image_there m [] p other
 image_push-other (n ∷ moves) m p other = ap (cond (nat_eq n.0 p) n.1) (image_push-other moves m p other)
 
-image_push-here : (moves : List (ℕ × ℕ)) (m : ℕ × ℕ) (p : ℕ) → All (λ n. n.0 ≢ p) moves → m.0 ≡ p → image (moves ++ m ∷ []) p ≡ m.1
+pub image_push-here : (moves : List (ℕ × ℕ)) (m : ℕ × ℕ) (p : ℕ) → All (λ n. n.0 ≢ p) moves → m.0 ≡ p → image (moves ++ m ∷ []) p ≡ m.1
 image_push-here [] m p none same = image_here m [] p same
 image_push-here (n ∷ moves) m p none same =
     image_there n (moves ++ m ∷ []) p (All-head (λ o. o.0 ≢ p) n moves none) ∙ image_push-here moves m p (All-tail (λ o. o.0 ≢ p) n moves none) same
@@ -31,10 +31,10 @@ images_differ moves perm i j d lt within same =
 pub source_more : (moves : List (ℕ × ℕ)) (k : ℕ) (m : ℕ × ℕ) → k < length moves → get_or moves k m ≡ m → source (take (k + 1) moves) ≡ image (map turned (take k moves) ++ turned m ∷ [])
 source_more moves k m within is = ap (λ ms. image (map turned ms)) (take_more moves k m within ∙ ap (λ n. take k moves ++ n ∷ []) is) ∙ ap image (map_push turned (take k moves) m)
 
-module _ (moves : List (ℕ × ℕ)) (perm : IsPerm moves) (marks : List Bool) where
-  pub placed_more : (after : List Bool) (k : ℕ) (m : ℕ × ℕ) (b : Bool) → k < length moves → get_or moves k m ≡ m → m.1 < length after → b ≡ get_or marks m.0 false →
-      ((j : ℕ) → get_or after j false ≡ get_or marks (source (take k moves) j) false) → (j : ℕ) → get_or (set after m.1 b) j false ≡ get_or marks (source (take (k + 1) moves) j) false
-  placed_more after k m b within is inside read placed j = by_place (cases_eq m.1 j)
+module _ (moves : List (ℕ × ℕ)) (perm : IsPerm moves) {A : Type 0} (xs : List A) where
+  pub placed_more : (after : List A) (k : ℕ) (m : ℕ × ℕ) (x : A) → k < length moves → get_or moves k m ≡ m → m.1 < length after → ((d : A) → x ≡ get_or xs m.0 d) →
+      ((j : ℕ) (d : A) → get_or after j d ≡ get_or xs (source (take k moves) j) d) → (j : ℕ) (d : A) → get_or (set after m.1 x) j d ≡ get_or xs (source (take (k + 1) moves) j) d
+  placed_more after k m x within is inside read placed j e = by_place (cases_eq m.1 j)
     where
       more : source (take (k + 1) moves) j ≡ image (map turned (take k moves) ++ turned m ∷ []) j
       more = ap (λ f. f j) (source_more moves k m within is)
@@ -46,12 +46,12 @@ module _ (moves : List (ℕ × ℕ)) (perm : IsPerm moves) (marks : List Bool) w
           let there = get_or_default moves k d m within ∙ is in
           images_differ moves perm i k d below within (ap (λ n. n.1) (sym at) ∙ same ∙ ap (λ n. n.1) (sym there)))
 
-      by_place : (m.1 ≡ j) ⊎ (m.1 ≢ j) → get_or (set after m.1 b) j false ≡ get_or marks (source (take (k + 1) moves) j) false
+      by_place : (m.1 ≡ j) ⊎ (m.1 ≢ j) → get_or (set after m.1 x) j e ≡ get_or xs (source (take (k + 1) moves) j) e
       by_place (inl same) =
           let here : source (take (k + 1) moves) j ≡ m.0 = more ∙ ap (image (map turned (take k moves) ++ turned m ∷ [])) (sym same) ∙ image_push-here (map turned (take k moves)) (turned m) m.1 none refl in
-          ap (λ i. get_or (set after m.1 b) i false) (sym same) ∙ get_or-set_same after m.1 b false inside ∙ read ∙ ap (λ i. get_or marks i false) (sym here)
+          ap (λ i. get_or (set after m.1 x) i e) (sym same) ∙ get_or-set_same after m.1 x e inside ∙ read e ∙ ap (λ i. get_or xs i e) (sym here)
       by_place (inr other) =
-          get_or-set_other after m.1 j b false (λ e. other (sym e)) ∙ placed j ∙ ap (λ i. get_or marks i false) (sym (more ∙ image_push-other (map turned (take k moves)) (turned m) j other))
+          get_or-set_other after m.1 j x e (λ q. other (sym q)) ∙ placed j e ∙ ap (λ i. get_or xs i e) (sym (more ∙ image_push-other (map turned (take k moves)) (turned m) j other))
 
 -- the image of a position below n is below n
 image_below : (moves : List (ℕ × ℕ)) (n p : ℕ) → All (λ m. m.1 < n) moves → p < n → image moves p < n
@@ -86,10 +86,34 @@ get_or-permute moves xs q d below within =
     get_or-permuted_from moves xs 0 xs q d within ∙ ap (λ i. get_or xs (source moves i) (get_or xs q d)) e
     ∙ get_or_default xs (source moves q) (get_or xs q d) d (source_below moves (length xs) q below within)
 
-pub permute_from_places : (moves : List (ℕ × ℕ)) (xs ys : List Bool) → MovesBelow (length xs) moves → length ys ≡ length xs → ((j : ℕ) → get_or ys j false ≡ get_or xs (source moves j) false) → ys ≡ permute moves xs
+pub permute_from_places : {A : Type 0} (moves : List (ℕ × ℕ)) (xs ys : List A) → MovesBelow (length xs) moves → length ys ≡ length xs → ((j : ℕ) (d : A) → get_or ys j d ≡ get_or xs (source moves j) d) → ys ≡ permute moves xs
 permute_from_places moves xs ys below same placed = same_lists ys (permute moves xs) (same ∙ sym (length-permuted_from moves xs 0 xs)) (λ k d within.
     let inside : k < length xs = omega (arith, within, same) in
-    get_or_default ys k d false within ∙ placed k ∙ sym (get_or-permute moves xs k false below inside) ∙ get_or_default (permute moves xs) k false d (omega (arith, inside, length-permuted_from moves xs 0 xs)))
+    placed k d ∙ sym (get_or-permute moves xs k d below inside))
+
+-- where no marked line moves, the marks are what they were
+module _ (moves : List (ℕ × ℕ)) (perm : IsPerm moves) (marks : List Bool) (below : MovesBelow (length marks) moves) (unmarked : (k : ℕ) → k < length moves → get_or marks (get_or moves k (0, 0)).0 false ≡ false) where
+  stays_or_unmarked : (p : ℕ) → (image moves p ≡ p) ⊎ (get_or marks p false ≡ false)
+  stays_or_unmarked p = by_case (image_cases moves p)
+    where
+      by_case : (((k : ℕ) × (k < length moves) × ((d : ℕ × ℕ) → (get_or moves k d).0 ≡ p)) ⊎ All (λ m. m.0 ≢ p) moves) → (image moves p ≡ p) ⊎ (get_or marks p false ≡ false)
+      by_case (inl (k, within, at)) = inr (ap (λ q. get_or marks q false) (sym (at (0, 0))) ∙ unmarked k within)
+      by_case (inr none) = inl (image_none moves p none)
+
+  same_mark : (q : ℕ) (d : Bool) → q < length marks → get_or marks q d ≡ get_or marks (source moves q) d
+  same_mark q d within = by_cases (stays_or_unmarked q) (stays_or_unmarked (source moves q))
+    where
+      still : source moves q ≡ q → get_or marks q d ≡ get_or marks (source moves q) d
+      still e = ap (λ p. get_or marks p d) (sym e)
+
+      by_cases : ((image moves q ≡ q) ⊎ (get_or marks q false ≡ false)) → ((image moves (source moves q) ≡ source moves q) ⊎ (get_or marks (source moves q) false ≡ false)) → get_or marks q d ≡ get_or marks (source moves q) d
+      by_cases (inl same) other = still (ap (source moves) (sym same) ∙ perm.back q)
+      by_cases (inr here) (inl same) = still (sym same ∙ perm.forth q)
+      by_cases (inr here) (inr there) =
+          get_or_default marks q d false within ∙ (here ∙ (sym there ∙ get_or_default marks (source moves q) false d (source_below moves (length marks) q below within)))
+
+  pub permute_unmarked : permute moves marks ≡ marks
+  permute_unmarked = sym (same_lists marks (permute moves marks) (sym (length-permuted_from moves marks 0 marks)) (λ q d within. same_mark q d within ∙ sym (get_or-permute moves marks q d below within)))
 
 -- the element at a position goes to its image
 pub slice_get-permute : {A : Type 0} (moves : List (ℕ × ℕ)) → IsPerm moves → (xs : List A) → MovesBelow (length xs) moves → (p : ℕ) → p < length xs → slice_get (permute moves xs) (image moves p) ≡ slice_get xs p

@@ -1,7 +1,7 @@
 ghost use Rattle.std.specs.Prelude.{◌≡◌, ℕ, ◌+◌, ◌-◌, ◌<◌, ◌≤◌, ◌↔◌, true, false, length, replicate, insert, IfOk, OnOk, OnErr, IsNone, IfSome, slice_get, slice_set};
 
 use crate::perm::Perm;
-use crate::places::{insert_place, permuted, places_of};
+use crate::places::{insert_place, moves_no_mark, places_of};
 use ss_base::Memory;
 use std::alloc::Global;
 use std::marker::Model;
@@ -97,14 +97,18 @@ impl Lines {
         }
     }
 
-    /// Each line goes with its mark from its position to the image of that position, in the time
-    /// of copying the list and of making its index anew.
+    /// Each line goes with its mark from its position to the image of that position. Where no marked
+    /// line moves, it takes the time of a look at those that move, and no memory; else that of copying
+    /// the list and of making its index anew.
     pub fn permute(&mut self, perm: &Perm) -> Result<(), Memory>
         requires { MovesBelow (length self.old) perm.now }
         ensures ok { OnOk result (self.new ≡ permute perm.now self.old) }
         ensures err { OnErr result (self.new ≡ self.old) }
     {
-        let marks = permuted(&self.marks, perm)?;
+        if moves_no_mark(&self.marks, perm) {
+            return Ok(());
+        }
+        let marks = perm.permuted(&self.marks)?;
         let places = places_of(*self.marks.allocator(), &marks)?;
         self.marks = marks;
         self.places = places;

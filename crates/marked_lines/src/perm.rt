@@ -26,7 +26,7 @@ impl Model for Perm {
 }
 
 impl Perm {
-    ghost use Rattle.marked_lines.specs.Moves.{image, source, IsPerm, shifted, after_insertion, MovesBelow};
+    ghost use Rattle.marked_lines.specs.Moves.{image, source, IsPerm, shifted, after_insertion, permute, MovesBelow};
 
     /// The permutation that moves nothing. It takes no memory.
     pub fn identity(alloc: Global) -> Perm
@@ -71,12 +71,25 @@ impl Perm {
         self.moves.get(i).copied()
     }
 
-    // The moved positions, ascending, each with its image.
-    pub(crate) fn moves(&self) -> &[(u32, u32)]
+    /// The moved positions, ascending, each with its image.
+    pub fn moves(&self) -> &[(u32, u32)]
         ensures value { result.now ≡ self.now }
         ensures bijective { IsPerm self.now }
     {
         &self.moves
+    }
+
+    /// A list in which each element went to the image of its position. It takes the time of copying the
+    /// list.
+    pub fn permuted<T: Copy>(&self, list: &[T]) -> Result<Vec<T>, Memory>
+        requires { MovesBelow (length list.now) self.now }
+        ensures { IfOk result (λ v. v.items ≡ permute self.now list.now) }
+    {
+        let mut after = Vec::from_slice(*self.moves.allocator(), list)?;
+        for &(from, to) in &self.moves {
+            after[to as usize] = list[from as usize];
+        }
+        Ok(after)
     }
 
     /// This permutation and then the next one. It takes the time of looking up each image of the first

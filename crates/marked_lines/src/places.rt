@@ -1,4 +1,4 @@
-ghost use Rattle.std.specs.Prelude.{◌≡◌, ℕ, ◌+◌, ◌-◌, ◌^◌, ◌<◌, ◌≤◌, ◌++◌, take, drop, length, map, All, IfOk, OnOk, OnErr, vec_len};
+ghost use Rattle.std.specs.Prelude.{◌≡◌, ℕ, ◌+◌, ◌-◌, ◌^◌, ◌<◌, ◌≤◌, ◌++◌, take, drop, length, map, All, IfOk, OnOk, OnErr, IsTrue, vec_len};
 ghost use Rattle.marked_lines.specs.Marks.{visible_places, raised};
 ghost use Rattle.marked_lines.specs.Moves.{permute, MovesBelow};
 
@@ -10,7 +10,7 @@ pub fn places_of(alloc: Global, marks: &[bool]) -> Result<Vec<u32>, AllocError>
     requires { length marks.now < 2 ^ 32 }
     ensures { IfOk result (λ v. v.items ≡ visible_places marks.now) }
 {
-    let mut places = Vec::new(alloc);
+    let mut places = Vec::with_capacity(alloc, marks.len())?;
     for (p, marked) in marks.iter().enumerate() {
         if !*marked {
             places.push(p as u32)?;
@@ -19,16 +19,17 @@ pub fn places_of(alloc: Global, marks: &[bool]) -> Result<Vec<u32>, AllocError>
     Ok(places)
 }
 
-// The marks after each line went to the image of its position.
-pub fn permuted(marks: &Vec<bool>, perm: &Perm) -> Result<Vec<bool>, AllocError>
-    requires { MovesBelow (length marks.now.items) perm.now }
-    ensures { IfOk result (λ v. v.items ≡ permute perm.now marks.now.items) }
+// Whether none of the lines that move is marked.
+pub fn moves_no_mark(marks: &[bool], perm: &Perm) -> bool
+    requires { MovesBelow (length marks.now) perm.now }
+    ensures { IsTrue result → permute perm.now marks.now ≡ marks.now }
 {
-    let mut after = Vec::from_slice(*marks.allocator(), marks)?;
-    for &(from, to) in perm.moves() {
-        after[to as usize] = marks[from as usize];
+    for &(from, _) in perm.moves() {
+        if marks[from as usize] {
+            return false;
+        }
     }
-    Ok(after)
+    true
 }
 
 // Puts a place in at an index, and moves each one behind it one further.

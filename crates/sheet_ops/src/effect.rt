@@ -52,8 +52,9 @@ fn records_in(alloc: Global, slots: &[u32], recs: &[u32]) -> Result<Vec<u32>, Al
     Ok(found)
 }
 
-/// Whether a number is one of some that ascend, in the logarithm of how many they are.
-fn is_among(numbers: &[u32], n: u32) -> bool
+/// Whether a number is one of some that ascend, as the slots of a sort do. It takes the logarithm of how
+/// many they are.
+pub fn is_among(numbers: &[u32], n: u32) -> bool
     requires { AllPairs (λ p q. p < q) numbers.now }
     ensures { result ≡ has_number numbers.now n }
 {

@@ -12,7 +12,7 @@ mod operation;
 
 pub use content::{Content, Put};
 pub use edit::{Edit, EditErr};
-pub use effect::{effect_of, size_past, size_past_own};
+pub use effect::{effect_of, is_among, size_past, size_past_own};
 pub use laws::{pairs_converge, pairs_fit_again};
 pub use misfits::{fits, fits_effect};
 pub use numeral::is_numeral;

@@ -102,11 +102,15 @@ impl<T> Seq<T> {
 }
 
 impl<T: Drop> Seq<T> {
-    /// Puts an element behind the last one. A refused call leaves the list and drops the element.
+    /// Puts an element behind the last one. A refused call leaves the list and drops the element. The
+    /// first one takes room for itself alone, since most lists hold one.
     pub fn push(&mut self, item: T) -> Result<(), Memory>
         ensures ok { OnOk result (self.new ≡ self.old ++ item ∷ []) }
         ensures err { OnErr result (self.new ≡ self.old) }
     {
+        if self.items.is_empty() {
+            self.items.reserve_exact(1)?;
+        }
         self.items.push(item)?;
         Ok(())
     }
