@@ -4,11 +4,11 @@ use Rattle.ss_base.specs.declared.types.Span.{Span}
 use Rattle.formula_tree.specs.Tree.{Tree, rename_tree}
 use Rattle.sheet_ops.specs.Maps.{cell_moved, range_moved}
 use Rattle.pair_transform.specs.declared.staying.Staying.{Staying}
-use Rattle.pair_transform.specs.StayingLines.{lines_map, AreStaying}
+use Rattle.pair_transform.specs.StayingLines.{lines_map, HaveAscendingSlots}
 
-pub record IsStaying (s : Staying) : Type 0 where
-  pub rows : AreStaying s.rows
-  pub cols : AreStaying s.cols
+pub record HasAscendingSlots (s : Staying) : Type 0 where
+  pub rows : HaveAscendingSlots s.rows
+  pub cols : HaveAscendingSlots s.cols
 
 -- where the references of a formula go
 abbrev pub cell_gone : Staying → Spot → Spot

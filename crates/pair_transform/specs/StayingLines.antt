@@ -12,6 +12,6 @@ lines_map (Map m) = line_map m
 lines_map (Sort slots recs) = past_moves (sort_moves slots.now recs.now)
 
 -- the slots of a sort ascend
-abbrev pub AreStaying : StayingLines → Type 0
-AreStaying (Map m) = Unit {0}
-AreStaying (Sort slots recs) = AllPairs (λ p q. p < q) slots.now
+abbrev pub HaveAscendingSlots : StayingLines → Type 0
+HaveAscendingSlots (Map m) = Unit {0}
+HaveAscendingSlots (Sort slots recs) = AllPairs (λ p q. p < q) slots.now

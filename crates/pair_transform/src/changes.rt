@@ -18,7 +18,7 @@ use ss_base::{Memory, Size};
 use std::collections::VecDeque;
 
 /// What [`xform`](crate::xform) changes: `None` stands for an operation, or an effect, that stays as it
-/// is. Nothing that stays is copied; of two writes it takes the product of their cells, and else what
+/// is. Nothing that surely stays is copied; of two writes it takes the product of their cells, and else what
 /// `xform` takes.
 pub fn xform_changes(
     own: &Intent,

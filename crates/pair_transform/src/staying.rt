@@ -1,8 +1,8 @@
 ghost use Rattle.std.specs.Prelude.{◌≡◌, map, IsTrue};
 ghost use Rattle.formula_tree.specs.Erase.{tree_of};
 ghost use Rattle.sheet_ops.specs.Maps.{content_moved, put_moved, intent_moved};
-ghost use Rattle.pair_transform.specs.StayingLines.{lines_map, AreStaying};
-ghost use Rattle.pair_transform.specs.Staying.{IsStaying, cell_gone, range_gone, tree_gone};
+ghost use Rattle.pair_transform.specs.StayingLines.{lines_map, HaveAscendingSlots};
+ghost use Rattle.pair_transform.specs.Staying.{HasAscendingSlots, cell_gone, range_gone, tree_gone};
 
 use crate::staying_lines::StayingLines;
 use formula_tree::Expr;
@@ -19,7 +19,7 @@ pub struct Staying<'a> {
 impl Staying<'_> {
     /// Whether an operation surely stays as it is. It takes the time of reading it, and no memory.
     pub fn has_intent(&self, own: &Intent) -> bool
-        requires { IsStaying self.now }
+        requires { HasAscendingSlots self.now }
         ensures { IsTrue result → intent_moved (lines_map self.now.rows) (lines_map self.now.cols) own.now ≡ own.now }
     {
         match own {
@@ -34,7 +34,7 @@ impl Staying<'_> {
 
     /// Whether puts surely stay as they are. It takes the time of reading them, and no memory.
     pub fn has_puts(&self, puts: &[Put]) -> bool
-        requires { IsStaying self.now }
+        requires { HasAscendingSlots self.now }
         ensures { IsTrue result → map (put_moved (lines_map self.now.rows) (lines_map self.now.cols)) puts.now ≡ puts.now }
     {
         for i in 0..puts.len() {
@@ -47,7 +47,7 @@ impl Staying<'_> {
 
     // Whether a put surely stays as it is: its cell stays, and so do the references of its content.
     fn has_put(&self, put: &Put) -> bool
-        requires { IsStaying self.now }
+        requires { HasAscendingSlots self.now }
         ensures { IsTrue result → put_moved (lines_map self.now.rows) (lines_map self.now.cols) put.now ≡ put.now }
     {
         self.rows.has_record(put.row)
@@ -56,7 +56,7 @@ impl Staying<'_> {
     }
 
     fn has_content(&self, content: &Content) -> bool
-        requires { IsStaying self.now }
+        requires { HasAscendingSlots self.now }
         ensures { IsTrue result → content_moved (lines_map self.now.rows) (lines_map self.now.cols) content.now ≡ content.now }
     {
         match content {
@@ -67,7 +67,7 @@ impl Staying<'_> {
 
     // A reference to a cell goes with its records.
     fn has_cell(&self, spot: &Spot) -> bool
-        requires { IsStaying self.now }
+        requires { HasAscendingSlots self.now }
         ensures { IsTrue result → cell_gone self.now spot.now ≡ spot.now }
     {
         self.rows.has_record(spot.row) && self.cols.has_record(spot.col)
@@ -87,7 +87,7 @@ impl Staying<'_> {
 // Whether the references of a tree surely stay as they are.
 #[cycle(stays)]
 fn tree_stays(staying: &Staying, expr: &Expr) -> bool
-    requires { IsStaying staying.now }
+    requires { HasAscendingSlots staying.now }
     ensures { IsTrue result → tree_gone staying.now (tree_of expr.now) ≡ tree_of expr.now }
 {
     match expr {
@@ -102,7 +102,7 @@ fn tree_stays(staying: &Staying, expr: &Expr) -> bool
 
 #[cycle(stays)]
 fn trees_stay(staying: &Staying, exprs: &[Expr]) -> bool
-    requires { IsStaying staying.now }
+    requires { HasAscendingSlots staying.now }
     ensures { IsTrue result → map (λ e. tree_gone staying.now (tree_of e)) exprs.now ≡ map tree_of exprs.now }
 {
     for i in 0..exprs.len() {

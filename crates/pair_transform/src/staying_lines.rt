@@ -1,8 +1,8 @@
-ghost use Rattle.std.specs.Prelude.{◌≡◌, ◌<◌, AllPairs, IsTrue};
-ghost use Rattle.sheet_ops.specs.Lines.{has_number};
-ghost use Rattle.pair_transform.specs.StayingLines.{lines_map, AreStaying};
+ghost use Rattle.std.specs.Prelude.{◌≡◌, IsTrue};
+ghost use Rattle.pair_transform.specs.StayingLines.{lines_map, HaveAscendingSlots};
 
 use crate::axis_map::AxisMap;
+use sheet_ops::is_among;
 use ss_base::Seq;
 
 /// Which lines of one axis, rows or columns, surely stay where they are.
@@ -18,7 +18,7 @@ pub enum StayingLines<'a> {
 impl StayingLines<'_> {
     /// Whether the record at a position surely stays there, in the logarithm of the lines that move.
     pub fn has_record(&self, p: u32) -> bool
-        requires { AreStaying self.now }
+        requires { HaveAscendingSlots self.now }
         ensures { IsTrue result → (lines_map self.now).rec p ≡ p }
     {
         match self {
@@ -36,12 +36,4 @@ impl StayingLines<'_> {
             StayingLines::Sort(_, _) => true,
         }
     }
-}
-
-/// Whether a number is one of some that ascend, in the logarithm of how many they are.
-fn is_among(numbers: &[u32], n: u32) -> bool
-    requires { AllPairs (λ p q. p < q) numbers.now }
-    ensures { result ≡ has_number numbers.now n }
-{
-    numbers.binary_search(&n).is_ok()
 }
