@@ -10,6 +10,7 @@ pub mod AddedLines
 pub mod ToNumbers
 pub mod NumberedPuts
 pub mod MovedRecords
+pub mod MovedPlaces
 pub mod NumberPlaces
 pub mod Spans
 pub mod ToPositions

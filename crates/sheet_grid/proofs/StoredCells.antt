@@ -8,7 +8,7 @@ use Rattle.sheet_ops.specs.declared.content.Put.{Put}
 use Rattle.sheet_ops.proofs.Ids.{same_number, number_self}
 use Rattle.sheet_grid.specs.Kept.{held, no_cells, cell_kept}
 use Rattle.sheet_grid.proofs.Compared.{other_test}
-use Rattle.sheet_grid.specs.Rows.{with_column, settled, cell_held, AddsNoEmpty, AreInRows, puts_kept}
+use Rattle.sheet_grid.specs.Rows.{with_column, settled, cell_held, AddsNoEmpty, puts_kept}
 use Rattle.std.proofs.lemmas.Bool.Decides.{nat_tests}
 
 -- rows with something else, or nothing, in one cell
@@ -119,13 +119,6 @@ settled_filled (Some content.Empty) e = cc
 settled_filled (Some (content.Num z)) e = cc
 settled_filled (Some (content.Text t)) e = cc
 settled_filled (Some (content.Formula t)) e = cc
-
--- the first of some cells, and the others
-pub first_in_rows : (n : ℕ) (puts : List Put) (p : Put) (rest : List Put) → puts ≡ p ∷ rest → AreInRows n puts → p.row < n
-first_in_rows n puts p rest e h = (rw e at h).0
-
-pub others_in_rows : (n : ℕ) (puts : List Put) (p : Put) (rest : List Put) → puts ≡ p ∷ rest → AreInRows n puts → AreInRows n rest
-others_in_rows n puts p rest e h = (rw e at h).1
 
 -- ---- one cell stored, then others written, then the one settled or put back
 module _ (rows : List (BTreeMap ℕ Content)) (p : Put) (what : Content) (d row : BTreeMap ℕ Content) (inside : p.row < length rows) (stored : held row ≡ with_column (held (slice_index_or rows p.row d)) p.col (Some what)) where

@@ -11,7 +11,7 @@ use Rattle.sheet_ops.specs.declared.content.Content.{Content}
 use Rattle.sheet_ops.specs.declared.content.Content.TheVariants as content
 use Rattle.sheet_ops.specs.declared.content.Put.{Put}
 use Rattle.sheet_grid.specs.Kept.{NumberedAxis, kept_of, kept_size, held, no_cells, cell_kept, line_added, recs_moved, IsSheet, IsTidy}
-use Rattle.sheet_grid.specs.Rows.{puts_kept, AreInRows, AddsNoEmpty, AllFit}
+use Rattle.sheet_grid.specs.Rows.{puts_kept, AddsNoEmpty, AllFit}
 use Rattle.sheet_grid.specs.Numbering.{IsAxis}
 use Rattle.sheet_grid.proofs.MarkedLines.{marked, kept_marked, kept_col_marked}
 use Rattle.sheet_grid.proofs.NumberedPuts.{kept_written}
@@ -75,13 +75,6 @@ module _ (rows cols : NumberedAxis) (maps : Maps) (ok : IsTidy rows cols maps) w
     where
       by_kept : IsSheet (kept_of rows cols maps) → cell_kept maps a b ≡ content.Empty
       by_kept (rs, rr, cs, cr, all) = all.no_row a b h
-
-  pub in_rows : (nps : List Put) → AllFit (kept_size (kept_of rows cols maps)) nps → AreInRows (length maps) nps
-  in_rows nps f = subst (λ n. AreInRows n nps) (sym ok.as_many) (each nps f)
-    where
-      each : (qs : List Put) → AllFit (kept_size (kept_of rows cols maps)) qs → AreInRows (length rows.slots) qs
-      each [] g = tt
-      each (q ∷ qs) g = (g.0, each qs g.3)
 
   pub tidy_written : (maps' : Maps) (nps : List Put) → AllFit (kept_size (kept_of rows cols maps)) nps → length maps' ≡ length maps → cell_kept maps' ≡ puts_kept (cell_kept maps) nps →
       AddsNoEmpty (map held maps) (map held maps') → IsTidy rows cols maps'

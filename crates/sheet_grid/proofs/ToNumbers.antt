@@ -1,9 +1,7 @@
 -- References by positions, and what they are by numbers.
-use Rattle.std.proofs.Common.{◌≡◌, ℕ, zero, suc, ◌+◌, ◌<◌, Bool, true, false, cond, List, [], ◌∷◌, ◌++◌, take, length, refl, ap, sym, ◌∙◌, subst, arith, All, Option, Some, None}
-use Rattle.std.specs.Prelude.{map, slice_index, slice_index_or, slice_get, unwrap_or}
+use Rattle.std.proofs.Common.{◌≡◌, ℕ, zero, suc, ◌<◌, Bool, true, false, cond, List, [], ◌∷◌, length, refl, ap, arith, Option, Some, None}
+use Rattle.std.specs.Prelude.{map, slice_index, slice_get, unwrap_or}
 use Rattle.std.specs.Option.{option_and_then, option_map}
-use Rattle.std.proofs.lemmas.List.Elements.{All-append}
-use Rattle.std.proofs.lemmas.List.{take_more, map-append}
 use Rattle.ss_base.specs.declared.types.Size.{Size}
 use Rattle.ss_base.specs.declared.types.Spot.{Spot}
 use Rattle.ss_base.specs.declared.types.Span.{Span}
@@ -19,7 +17,7 @@ use Rattle.sheet_ops.proofs.Renamed.{references_weaker, references_after}
 use Rattle.sheet_grid.specs.Numbers.{IsNumbered}
 use Rattle.sheet_grid.specs.Kept.{NumberedAxis, rec_number, slot_number, cell_numbered, range_numbered, content_numbered}
 use Rattle.sheet_grid.specs.Rows.{AllFit}
-use Rattle.sheet_grid.specs.Numbering.{IsAxis, pair_at, numbering, HasOrderedCorners, HasOrderedRanges, put_numbered}
+use Rattle.sheet_grid.specs.Numbering.{IsAxis, pair_at, numbering, HasOrderedCorners, put_numbered}
 
 -- ---- an element that is there
 pub got : (xs : List ℕ) (i n : ℕ) → slice_get xs i ≡ Some n → (i < length xs) × (slice_index xs i ≡ n)
@@ -160,25 +158,3 @@ module _ (rows cols : NumberedAxis) (ro : IsAxis rows) (co : IsAxis cols) where
   pub puts_numbered_fit : (ps : List Put) → AllFit size ps → AllFit size (map (put_numbered rows cols) ps)
   puts_numbered_fit [] f = tt
   puts_numbered_fit (p ∷ ps) f = (rec_inside rows ro p.row f.0, rec_inside cols co p.col f.1, content_numbered_fits p.content f.2, puts_numbered_fit ps f.3)
-
-pub fit_at : (size : Size) (ps : List Put) (i : ℕ) (d : Put) → i < length ps → AllFit size ps → let p = slice_index_or ps i d in (p.row < size.rows) × (p.col < size.cols) × ContentFits size p.content
-fit_at size [] i d h f = absurd (omega arith)
-fit_at size (p ∷ ps) zero d h f = (f.0, f.1, f.2)
-fit_at size (p ∷ ps) (suc i) d h f = fit_at size ps i d (omega arith) f.3
-
--- one more put numbered
-pub put_more : (rows cols : NumberedAxis) (ps : List Put) (i : ℕ) (p q : Put) → i < length ps → p ≡ slice_index_or ps i p → q ≡ put_numbered rows cols p → (done : List Put) → done ≡ map (put_numbered rows cols) (take i ps) →
-    done ++ q ∷ [] ≡ map (put_numbered rows cols) (take (i + 1) ps)
-put_more rows cols ps i p q h is same done before =
-    (λ j. before j ++ (same ∙ ap (put_numbered rows cols) is) j ∷ [])
-    ∙ (sym (map-append (put_numbered rows cols) (take i ps) (slice_index_or ps i p ∷ []))
-    ∙ ap (map (put_numbered rows cols)) (sym (take_more ps i p h)))
-
-pub ordered_more : (ps : List Put) (i : ℕ) (p : Put) → i < length ps → p ≡ slice_index_or ps i p → HasOrderedRanges p.content → All (λ (q : Put). HasOrderedRanges q.content) (take i ps) → All (λ (q : Put). HasOrderedRanges q.content) (take (i + 1) ps)
-ordered_more ps i p h is o before =
-    subst (λ (qs : List Put). All (λ (q : Put). HasOrderedRanges q.content) qs) (sym (take_more ps i p h))
-    (All-append (λ (q : Put). HasOrderedRanges q.content) (take i ps) (slice_index_or ps i p ∷ []) before (one (slice_index_or ps i p) (subst (λ (q : Put). HasOrderedRanges q.content) is o)))
-  where
-    one : (q : Put) → HasOrderedRanges q.content → All (λ (r : Put). HasOrderedRanges r.content) (q ∷ [])
-    one q o zero d h = o
-    one q o (suc j) d h = absurd (omega arith)

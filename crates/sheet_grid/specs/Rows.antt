@@ -35,11 +35,6 @@ abbrev pub puts_kept : (ℕ → ℕ → Content) → List Put → ℕ → ℕ �
 puts_kept cells [] = cells
 puts_kept cells (p ∷ ps) = puts_kept (put_kept cells p) ps
 
--- each cell is in one of so many rows
-abbrev pub AreInRows : ℕ → List Put → Type 0
-AreInRows rows [] = Unit {0}
-AreInRows rows (p ∷ ps) = (p.row < rows) × AreInRows rows ps
-
 -- each cell and each reference is inside
 abbrev pub AllFit : Size → List Put → Type 0
 AllFit size [] = Unit {0}

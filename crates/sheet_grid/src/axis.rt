@@ -132,17 +132,17 @@ impl AxisLines {
         Ok(())
     }
 
-    /// These lines with each record gone from its position to the image of that position.
-    pub fn moved(&self, perm: &Perm) -> Result<AxisLines, Memory>
+    /// Each record goes from its position to the image of that position. A refused call leaves the lines.
+    pub fn move_recs(&mut self, perm: &Perm) -> Result<(), Memory>
         requires proper { IsPerm perm.now }
-        requires below { MovesBelow (length self.now.slots) perm.now }
-        ensures { IfOk result (λ a. a ≡ recs_moved self.now perm.now) }
+        requires below { MovesBelow (length self.old.slots) perm.now }
+        ensures ok { OnOk result (self.new ≡ recs_moved self.old perm.now) }
+        ensures err { OnErr result (self.new ≡ self.old) }
     {
-        let slots = self.slots.copy()?;
         let recs = self.recs.moved(perm)?;
-        let mut marks = self.marks.copy()?;
-        marks.permute(perm)?;
-        Ok(AxisLines { slots, recs, marks })
+        self.marks.permute(perm)?;
+        self.recs = recs;
+        Ok(())
     }
 
     /// How many lines are visible.

@@ -11,7 +11,6 @@ ghost use Rattle.sheet_grid.specs.Values.{placed_in, numbered_past, numbered_siz
 
 use crate::Sheet;
 use crate::axis::AxisLines;
-use crate::numbering::puts_numbered;
 use crate::row::{copy_rows, empty_rows};
 use crate::write::write_puts;
 use marked_lines::Perm;
@@ -110,8 +109,7 @@ impl Sheet {
         ensures ordered { OnOk result (All (λ p. HasOrderedRanges p.content) puts.now) }
         ensures err { OnErr result (self.new ≡ self.old) }
     {
-        let mut numbered = puts_numbered(*self.cells.allocator(), &self.rows, &self.cols, puts)?;
-        write_puts(self.cells.as_mut_slice(), &mut numbered)
+        write_puts(self.cells.as_mut_slice(), &self.rows, &self.cols, puts)
     }
 
     // A new row before the one at a position, or behind the last one.
@@ -163,7 +161,7 @@ impl Sheet {
         ensures ok { OnOk result (self.new ≡ numbered_past self.old (effect.Move perm.now)) }
         ensures err { OnErr result (self.new ≡ self.old) }
     {
-        self.rows = self.rows.moved(perm)?;
+        self.rows.move_recs(perm)?;
         Ok(())
     }
 }

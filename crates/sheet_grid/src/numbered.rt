@@ -86,8 +86,8 @@ impl Numbered {
         requires below { MovesBelow (length self.now) perm.now }
         ensures { IfOk result (λ r. r ≡ permute perm.now self.now) }
     {
-        let numbers = permuted(&self.numbers, perm)?;
-        let places = images(&self.places, perm)?;
+        let numbers = perm.permuted(&self.numbers)?;
+        let places = places_moved(&self.numbers, &self.places, perm)?;
         Ok(Numbered { numbers, places })
     }
 }
@@ -154,26 +154,16 @@ fn first_numbers(alloc: Global, count: u32) -> Result<Vec<u32>, AllocError>
     Ok(numbers)
 }
 
-// The images of some positions.
-fn images(places: &Vec<u32>, perm: &Perm) -> Result<Vec<u32>, AllocError>
+// Where each number stands after each went from its position to the image of that position: only those
+// that move are looked at.
+fn places_moved(numbers: &[u32], places: &Vec<u32>, perm: &Perm) -> Result<Vec<u32>, AllocError>
+    requires numbered { IsNumbered numbers.now places.now.items }
+    requires below { MovesBelow (length numbers.now) perm.now }
     ensures { IfOk result (λ v. v.items ≡ map (image perm.now) places.now.items) }
 {
-    places
-        .iter()
-        .map(|p| perm.at(*p))
-        .collect(*places.allocator())
-}
-
-// What stands at each position after each went to the image of its position.
-fn permuted(numbers: &Vec<u32>, perm: &Perm) -> Result<Vec<u32>, Memory>
-    requires few { length numbers.now.items ≤ 16000 }
-    requires below { MovesBelow (length numbers.now.items) perm.now }
-    ensures moved { IfOk result (λ v. v.items ≡ permute perm.now numbers.now.items) }
-{
-    let back = perm.inverse()?;
-    let mut after = Vec::with_capacity(*numbers.allocator(), numbers.len())?;
-    for p in 0..numbers.len() {
-        after.push(numbers[back.at(p as u32) as usize])?;
+    let mut after = Vec::from_slice(*places.allocator(), places)?;
+    for &(from, to) in perm.moves() {
+        after[numbers[from as usize] as usize] = to;
     }
     Ok(after)
 }

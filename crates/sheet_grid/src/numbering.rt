@@ -1,17 +1,14 @@
-ghost use Rattle.std.specs.Prelude.{◌≡◌, ◌<◌, length, map, All, IfOk};
+ghost use Rattle.std.specs.Prelude.{◌≡◌, ◌<◌, length, IfOk};
 ghost use Rattle.ss_base.specs.declared.types.Size.{Size};
 ghost use Rattle.formula_tree.specs.Remap.{mapped};
 ghost use Rattle.sheet_ops.specs.Fits.{ContentFits};
 ghost use Rattle.sheet_grid.specs.Kept.{content_numbered};
-ghost use Rattle.sheet_grid.specs.Rows.{AllFit};
 ghost use Rattle.sheet_grid.specs.Numbering.{IsAxis, HasOrderedRanges, numbering, placing, content_placed, put_numbered};
 
 use crate::axis::AxisLines;
 use formula_tree::{Formula, Remap, rename};
 use sheet_ops::{Content, Put};
-use ss_base::{Memory, Seq};
-use std::alloc::Global;
-use std::collections::VecDeque;
+use ss_base::Memory;
 
 /// The numbers of what stands at positions.
 #[derive(Drop)]
@@ -141,27 +138,21 @@ pub fn content_numbered(
     }
 }
 
-/// Puts with their references by numbers.
-pub fn puts_numbered(
-    alloc: Global,
-    rows: &AxisLines,
-    cols: &AxisLines,
-    puts: &[Put],
-) -> Result<VecDeque<Put>, Memory>
+/// A put with its cell, and the references of its content, by numbers.
+pub fn put_numbered(rows: &AxisLines, cols: &AxisLines, put: &Put) -> Result<Put, Memory>
     requires rows { IsAxis rows.now }
     requires cols { IsAxis cols.now }
-    requires fit { AllFit (record { rows = length rows.now.slots; cols = length cols.now.slots }) puts.now }
-    ensures value { IfOk result (λ ps. ps.items ≡ map (put_numbered rows.now cols.now) puts.now) }
-    ensures ordered { IfOk result (λ ps. All (λ p. HasOrderedRanges p.content) puts.now) }
+    requires row { put.now.row < length rows.now.slots }
+    requires col { put.now.col < length cols.now.slots }
+    requires fits { ContentFits (record { rows = length rows.now.slots; cols = length cols.now.slots }) put.now.content }
+    ensures value { IfOk result (λ p. p ≡ put_numbered rows.now cols.now put.now) }
+    ensures row { IfOk result (λ p. p.row < length rows.now.slots) }
+    ensures ordered { IfOk result (λ p. HasOrderedRanges put.now.content) }
 {
-    let mut numbered = VecDeque::with_capacity(alloc, puts.len())?;
-    for put in puts {
-        let content = content_numbered(rows, cols, &put.content)?;
-        numbered.push_back(Put {
-            row: rows.rec_number(put.row),
-            col: cols.rec_number(put.col),
-            content,
-        })?;
-    }
-    Ok(numbered)
+    let content = content_numbered(rows, cols, &put.content)?;
+    Ok(Put {
+        row: rows.rec_number(put.row),
+        col: cols.rec_number(put.col),
+        content,
+    })
 }

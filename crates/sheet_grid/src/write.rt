@@ -1,33 +1,44 @@
-ghost use Rattle.std.specs.Prelude.{◌≡◌, map, length, OnOk, OnErr};
+ghost use Rattle.std.specs.Prelude.{◌≡◌, ◌≤◌, map, length, All, OnOk, OnErr};
+ghost use Rattle.ss_base.specs.declared.types.Size.{Size};
 ghost use Rattle.sheet_grid.specs.Kept.{held, cell_kept};
-ghost use Rattle.sheet_grid.specs.Rows.{puts_kept, AreInRows, AddsNoEmpty};
+ghost use Rattle.sheet_grid.specs.Numbering.{IsAxis, HasOrderedRanges, put_numbered};
+ghost use Rattle.sheet_grid.specs.Rows.{puts_kept, AllFit, AddsNoEmpty};
 
+use crate::axis::AxisLines;
+use crate::numbering::put_numbered;
 use crate::row::{put_back, settle, store};
 use sheet_ops::{Content, Put};
 use ss_base::Memory;
-use std::collections::{BTreeMap, VecDeque};
+use std::collections::BTreeMap;
 
-/// Writes each of these cells, one after another, and takes their contents. An emptied cell keeps its
-/// key until the others are written, so that putting the old contents back takes no memory. A refused
-/// call leaves what every key holds.
+/// Writes each of these contents into its cell, one after another, by the numbers of the lines. An emptied
+/// cell keeps its key until the others are written, so that putting the old contents back takes no memory.
+/// A refused call leaves what every key holds.
 pub fn write_puts(
-    rows: &mut [BTreeMap<u32, Content>],
-    puts: &mut VecDeque<Put>,
+    cells: &mut [BTreeMap<u32, Content>],
+    rows: &AxisLines,
+    cols: &AxisLines,
+    puts: &[Put],
 ) -> Result<(), Memory>
-    requires { AreInRows (length rows.old) puts.old.items }
-    ensures ok { OnOk result (cell_kept rows.new ≡ puts_kept (cell_kept rows.old) puts.old.items) }
-    ensures empties { OnOk result (AddsNoEmpty (map held rows.old) (map held rows.new)) }
-    ensures err { OnErr result (map held rows.new ≡ map held rows.old) }
+    requires rows { IsAxis rows.now }
+    requires cols { IsAxis cols.now }
+    requires many { length rows.now.slots ≤ length cells.old }
+    requires fit { AllFit (record { rows = length rows.now.slots; cols = length cols.now.slots }) puts.now }
+    ensures ok { OnOk result (cell_kept cells.new ≡ puts_kept (cell_kept cells.old) (map (put_numbered rows.now cols.now) puts.now)) }
+    ensures ordered { OnOk result (All (λ p. HasOrderedRanges p.content) puts.now) }
+    ensures empties { OnOk result (AddsNoEmpty (map held cells.old) (map held cells.new)) }
+    ensures err { OnErr result (map held cells.new ≡ map held cells.old) }
 {
-    let Some(put) = puts.pop_front() else {
+    let Some((put, rest)) = puts.split_first() else {
         return Ok(());
     };
-    let (row, col) = (put.row as usize, put.col);
-    let old = store(&mut rows[row], col, put.content)?;
-    let done = write_puts(rows, puts);
+    let numbered = put_numbered(rows, cols, put)?;
+    let (row, col) = (numbered.row as usize, numbered.col);
+    let old = store(&mut cells[row], col, numbered.content)?;
+    let done = write_puts(cells, rows, cols, rest);
     match done {
-        Ok(()) => settle(&mut rows[row], col),
-        Err(_) => put_back(&mut rows[row], col, old),
+        Ok(()) => settle(&mut cells[row], col),
+        Err(_) => put_back(&mut cells[row], col, old),
     }
     done
 }
