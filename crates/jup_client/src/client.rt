@@ -130,22 +130,11 @@ fn apply_own(sheet: &mut Sheet, intent: &Intent) -> Result<(), Memory>
 {
     match intent {
         Intent::Write(puts) => sheet.apply_write(puts.as_slice()),
-        _ => apply_effect(sheet, intent),
+        _ => {
+            let effect = effect_of(intent)?;
+            sheet.apply(&effect)
+        }
     }
-}
-
-/// The same by the effect, which is made for it.
-fn apply_effect(sheet: &mut Sheet, intent: &Intent) -> Result<(), Memory>
-    requires fits { IntentFits (placed_size (placed_in sheet.old)) intent.now }
-    requires rows { (placed_size (placed_in sheet.old)).rows < 16000 }
-    requires cols { (placed_size (placed_in sheet.old)).cols < 16000 }
-    ensures ok { OnOk result (placed_in sheet.new ≡ effect_on (placed_in sheet.old) (effect_of_intent intent.now)) }
-    ensures step { OnOk result (StepsTo (placed_in sheet.old) (effect_of_intent intent.now) (placed_in sheet.new)) }
-    ensures size { OnOk result (placed_size (placed_in sheet.new) ≡ size_past (placed_size (placed_in sheet.old)) (effect_of_intent intent.now)) }
-    ensures err { OnErr result (sheet.new ≡ sheet.old) }
-{
-    let effect = effect_of(intent)?;
-    sheet.apply(&effect)
 }
 
 impl Client {
