@@ -17,7 +17,7 @@ use std::alloc::Global;
 /// The causes are those of the edit on the client's sheet, in the order `OutOfSheet`, `CopyLarge`,
 /// `SortLong`, `BadFormula`, `Deep`, `Heavy`, and behind them `Spent`, which comes where 1,000 operations
 /// were issued. A sort whose rows and column are in the visible sheet takes the time of a full
-/// evaluation.
+/// evaluation where there is a formula among its keys.
 pub fn issue(alloc: Global, client: &mut Client, edit: &Edit) -> Result<Up, EditErr>
     requires { IsOrderly edit.now }
     ensures few { OnOk result (client.old.issued < 1000) }

@@ -112,7 +112,7 @@ impl Session {
     /// session. The causes are those of the edit on the replica's sheet, in the order `OutOfSheet`,
     /// `CopyLarge`, `SortLong`, `BadFormula`, `Deep`, `Heavy`, and behind them `Spent`, which comes where
     /// 1,000 operations were issued. A sort goes by the values of the replica's sheet, and takes the time
-    /// of evaluating it in full. It never waits.
+    /// of evaluating it in full where there is a formula among its keys. It never waits.
     pub fn edit(&mut self, edit: &Edit) -> Result<(), EditErr>
         requires { IsOrderly edit.now }
         ensures ok { OnOk result ((op : Intent) × Decides self.old.client edit.now (Ok op)
