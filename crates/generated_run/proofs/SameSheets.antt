@@ -13,9 +13,7 @@ use Rattle.sheet_ops.proofs.Members.{has_contains, contains_has, has_filter, fil
 use Rattle.sheet_ops.specs.Identity.{IdSheet}
 use Rattle.sheet_ops.specs.Naming.{locate_content}
 use Rattle.sheet_ops.specs.Placed.{PlacedSheet, placed, cell_at}
-use Rattle.sheet_grid.specs.declared.Kind.{Kind}
-use Rattle.sheet_grid.specs.declared.Kind.TheVariants as kind
-use Rattle.sheet_grid.specs.Cells.{kind_of, is_empty, occupied_places}
+use Rattle.sheet_grid.specs.Cells.{is_empty, occupied_places}
 use Rattle.sheet_grid.proofs.FilledColumns.{number_has, has_below}
 use Rattle.sheet_grid.specs.Kept.{by_numbers}
 use Rattle.sheet_grid.specs.Values.{NumberedSheet, kept_in, placed_in}
@@ -31,31 +29,6 @@ same_places (x ∷ xs) (y ∷ ys) e h =
     let heads : x ≡ y = cc in
     let tails = same_places xs ys (omega arith) (λ k l. h (suc k) (omega arith)) in
     λ i. heads i ∷ tails i
-
--- what a content of no text and no formula is, its kind says
-abbrev IsSaid : Kind → Type 0
-IsSaid kind.Empty = Unit {0}
-IsSaid (kind.Num z) = Unit {0}
-IsSaid kind.Text = ⊥
-IsSaid kind.Formula = ⊥
-
-pub said : (c d : Content) (k : Kind) → k ≡ kind_of c → k ≡ kind_of d → IsSaid k → c ≡ d
-said content.Empty content.Empty kind.Empty p q h = refl
-said content.Empty (content.Num z) kind.Empty p q h = absurd (cc)
-said content.Empty (content.Text t) kind.Empty p q h = absurd (cc)
-said content.Empty (content.Formula t) kind.Empty p q h = absurd (cc)
-said (content.Num y) d kind.Empty p q h = absurd (cc)
-said (content.Text s) d kind.Empty p q h = absurd (cc)
-said (content.Formula s) d kind.Empty p q h = absurd (cc)
-said (content.Num y) (content.Num z) (kind.Num n) p q h = cc
-said (content.Num y) content.Empty (kind.Num n) p q h = absurd (cc)
-said (content.Num y) (content.Text t) (kind.Num n) p q h = absurd (cc)
-said (content.Num y) (content.Formula t) (kind.Num n) p q h = absurd (cc)
-said content.Empty d (kind.Num n) p q h = absurd (cc)
-said (content.Text s) d (kind.Num n) p q h = absurd (cc)
-said (content.Formula s) d (kind.Num n) p q h = absurd (cc)
-said c d kind.Text p q h = absurd h
-said c d kind.Formula p q h = absurd h
 
 -- rows of one length
 row_length : {A B C : Type 0} (g : A → B → C) (ys : List B) (xs : List A) (i : ℕ) → i < length xs → length (get_or (map (λ x. map (g x) ys) xs) i []) ≡ length ys
@@ -93,12 +66,6 @@ module _ (X Y : IdSheet) where
 
 pub all_places : (xs ys : List Bool) (n : ℕ) → length xs ≡ length ys → length xs ≤ n → ((k : ℕ) → k < n → slice_get xs k ≡ slice_get ys k) → (true ≡ true) ↔ (xs ≡ ys)
 all_places xs ys n e long same = ((λ t. same_places xs ys e (λ k h. same k (omega arith))), (λ equal. refl))
-
-pub all_cells : (P Q : PlacedSheet) (row n : ℕ) → length P.cols ≤ n → ((k : ℕ) → k < n → cell_at P row k ≡ cell_at Q row k) → (true ≡ true) ↔ SameRow P Q row
-all_cells P Q row n long same = ((λ t k h. same k (omega arith)), (λ equal. refl))
-
-pub all_rows : (P Q : PlacedSheet) (n : ℕ) → length P.rows ≤ n → ((k : ℕ) → k < n → SameRow P Q k) → (true ≡ true) ↔ SameCells P Q
-all_rows P Q n long same = ((λ t k h. same k (omega arith)), (λ equal. refl))
 
 -- one place more
 pub one_more : (P : ℕ → Type 0) (n : ℕ) (b : Bool) → ((k : ℕ) → k < n → P k) → (b ≡ true) ↔ P n → b ≡ true → (k : ℕ) → k < n + 1 → P k
@@ -180,17 +147,6 @@ module _ (P Q : PlacedSheet) (row : ℕ) (as_many : length P.cols ≡ length Q.c
       filter_same (λ k. not (is_empty (cell_at P row k))) (λ k. not (is_empty (cell_at Q row k))) (numbers_from 0 (length P.cols))
       (λ k there. ap (λ (c : Content). not (is_empty c)) (same k (let b = has_below 0 (length P.cols) k there in omega (arith, b))))
       ∙ ap (λ (n : ℕ). filter (λ k. not (is_empty (cell_at Q row k))) (numbers_from 0 n)) as_many
-
-pub all_among : (P Q : PlacedSheet) (row : ℕ) (cols : List ℕ) (n : ℕ) → length cols ≤ n → ((k : ℕ) → k < n → cell_at P row (slice_index cols k) ≡ cell_at Q row (slice_index cols k)) → (true ≡ true) ↔ SameAmong P Q row cols
-all_among P Q row cols n long same = ((λ t k h. same k (omega arith)), (λ equal. refl))
-
-pub by_occupied : (P Q : PlacedSheet) (row : ℕ) → length P.cols ≡ length Q.cols → (cols others : List ℕ) → cols ≡ occupied_places P row → others ≡ occupied_places Q row → cols ≡ others → (r : Result Bool Memory) →
-    IfOk r (λ s. (s ≡ true) ↔ SameAmong P Q row cols) → IfOk r (λ s. (s ≡ true) ↔ SameRow P Q row)
-by_occupied P Q row as_many cols others p q same (Ok s) h = same_occupied P Q row as_many cols p (same ∙ q) s h
-by_occupied P Q row as_many cols others p q same (Err e) h = tt
-
-pub not_occupied : (P Q : PlacedSheet) (row : ℕ) → length P.cols ≡ length Q.cols → (cols others : List ℕ) → cols ≡ occupied_places P row → others ≡ occupied_places Q row → cols ≢ others → (false ≡ true) ↔ SameRow P Q row
-not_occupied P Q row as_many cols others p q differ = ((λ e. absurd (cc)), (λ same. absurd (differ (p ∙ (occupied_same P Q row as_many same ∙ sym q)))))
 
 -- what a test of two lists has told
 pub lists_equal : (xs ys : List ℕ) → false ≡ not (pointwise nat_eq xs ys) → xs ≡ ys

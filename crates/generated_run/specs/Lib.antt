@@ -4,3 +4,4 @@ pub mod Runs
 pub mod Tallies
 pub mod Summary
 pub mod Sameness
+pub mod Held

@@ -1,8 +1,10 @@
 ghost use Rattle.std.specs.Prelude.{◌≡◌, ◌<◌, ◌↔◌, true, IfOk, length};
 ghost use Rattle.sheet_grid.specs.Values.{placed_in};
-ghost use Rattle.generated_run.specs.Summary.{filled_cells, AreFigures, HowMany, EqualsServer};
+ghost use Rattle.generated_run.specs.Held.{AreRowsHeld};
+ghost use Rattle.generated_run.specs.Summary.{server_sheet, filled_cells, AreFigures, HowMany, EqualsServer};
 
 use crate::comparison::same_sheets;
+use crate::held::{RowHeld, rows_held};
 use crate::tally::{Tally, value_tally};
 use script_run::Run;
 use sheet_grid::Sheet;
@@ -42,7 +44,7 @@ pub fn figures_of(alloc: Global, run: &Run, refused: u32) -> Result<Figures, Mem
         cells: filled_cells(sheet)?,
         published: run.published_length(),
         tally: value_tally(&values),
-        equal: equal_replicas(run)?,
+        equal: equal_replicas(alloc, run)?,
     })
 }
 
@@ -61,20 +63,22 @@ fn filled_cells(sheet: &Sheet) -> Result<usize, Memory>
 }
 
 /// How many sites' sheets equal the server's.
-fn equal_replicas(run: &Run) -> Result<usize, Memory>
+fn equal_replicas(alloc: Global, run: &Run) -> Result<usize, Memory>
     ensures { IfOk result (λ equal. HowMany (EqualsServer run.now) (length run.now.seats) equal) }
 {
+    let rows = rows_held(alloc, run.server_sheet())?;
     let mut equal = 0;
     for place in 0..run.sites() {
-        equal += usize::from(equals_server(run, place)?);
+        equal += usize::from(equals_server(run, place, rows.as_slice())?);
     }
     Ok(equal)
 }
 
-/// Whether the sheet of the site at a place equals the server's.
-fn equals_server(run: &Run, place: usize) -> Result<bool, Memory>
-    requires { place < length run.now.seats }
+/// Whether the sheet of the site at a place equals the server's, of which the rows are what it holds.
+fn equals_server(run: &Run, place: usize, rows: &[RowHeld]) -> Result<bool, Memory>
+    requires place { place < length run.now.seats }
+    requires rows { AreRowsHeld (server_sheet run.now) rows.now }
     ensures { IfOk result (λ same. (same ≡ true) ↔ EqualsServer run.now place) }
 {
-    same_sheets(run.replica(place), run.server_sheet())
+    same_sheets(run.replica(place), run.server_sheet(), rows)
 }

@@ -7,6 +7,7 @@ mod contents;
 mod draws;
 mod edits;
 mod figures;
+mod held;
 mod load;
 mod summary;
 mod tally;

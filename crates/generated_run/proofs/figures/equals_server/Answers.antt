@@ -1,9 +1,14 @@
+use Rattle.std.proofs.Common.{subst, sym}
 use Rattle.sheet_ops.specs.History.{sheet_of}
-use Rattle.sheet_ops.specs.Placed.{placed}
+use Rattle.sheet_ops.specs.Placed.{PlacedSheet, placed}
 use Rattle.sheet_grid.specs.Values.{placed_in}
 use Rattle.script_run.specs.World.{site_view}
+use Rattle.generated_run.specs.Held.{AreRowsHeld}
 use Rattle.generated_run.proofs.HowMany.{same_of}
 use Rattle.generated_run.proofs.figures.equals_server.Goals as goal
+
+pub same_sheets-requires : goal.same_sheets-requires
+same_sheets-requires c = subst (λ (P : PlacedSheet). AreRowsHeld P c.args.rows.now) (sym c.server_sheet.ensures) c.requires.rows
 
 pub returns : goal.returns
 returns c =
