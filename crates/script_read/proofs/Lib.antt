@@ -1,2 +1,6 @@
 pub mod Cuts
 pub mod Within
+pub mod Spaced
+pub mod Forms
+pub mod Found
+pub mod Lines
