@@ -49,6 +49,7 @@ pub fn play<S: Source, K: Sink>(
 ) -> PlayEnd
     ensures script { (bytes before : List ℕ) → call_in words.now ≡ Some Call.Script → S.left source.old ≡ Some bytes → K.taken sink.old ≡ Some before →
         Played (script bytes) before (K.taken sink.new) result.status }
+    ensures stop { (bytes : List ℕ) → call_in words.now ≡ Some Call.Script → S.left source.old ≡ Some bytes → StopsAs (script bytes).stop result.status }
     // What is published never goes back.
     ensures published { (bytes : List ℕ) → NeverGoesBack (script bytes).commands }
     ensures room { (bytes : List ℕ) → call_in words.now ≡ Some Call.Script → S.left source.old ≡ Some bytes →
@@ -89,6 +90,7 @@ fn play_call<S: Source, K: Sink>(
 ) -> Result<Room, Status>
     ensures script { (bytes before : List ℕ) → call_in words.now ≡ Some Call.Script → S.left source.old ≡ Some bytes → K.taken sink.old ≡ Some before →
         Played (script bytes) before (K.taken sink.new) (status_of result) }
+    ensures stop { (bytes : List ℕ) → call_in words.now ≡ Some Call.Script → S.left source.old ≡ Some bytes → StopsAs (script bytes).stop (status_of result) }
     ensures room { (bytes : List ℕ) → call_in words.now ≡ Some Call.Script → S.left source.old ≡ Some bytes →
         IfOk result (RoomRepresents (world_after (script bytes).commands)) }
     ensures summary { (number : ℕ) (before : List ℕ) → call_in words.now ≡ Some (Call.Load number) → K.taken sink.old ≡ Some before →
